@@ -1,0 +1,358 @@
+-- How large what a reading gives can be: tokens, levels, depth, widths, and each word of the records.
+-- Assumes nothing.
+use Prim.Native.Nat.{ℕ, zero, suc, _+_, _-_, _*_, _≤_, _<_, zero-le, suc-le-suc, pred}
+use mathlib.Core.Path.{_≡_, refl, sym, _∙_, ap}
+use mathlib.Core.Bool.{Bool, true, false}
+use mathlib.Core.List.{List, [], _∷_, _++_}
+use native.Mathlib.Omega.{arith}
+use lib.Dec.{ltb, eqb}
+use lib.ListN.{length, take, drop, replicate, length-append, length-take, length-replicate}
+use borrow.Author.Tests.{ltb-true}
+use Rattle.rules.specs.Lists.{if_then_else_, bit, run, trimmed, trimEnd, lastD}
+use Rattle.rules.specs.Kinds.{LParen, RParen, Indent, Dedent, Newline}
+use Rattle.rules.specs.Cut.{Cut, blank, comment, ends, token, fails, cut}
+use Rattle.rules.specs.Line.{State, initial, Token, tokenAt, Cuts, cuts, stops, withToken, cutStep, cutsFrom, isSpace, isTab, indentWidth, isCompared, Levels, levels, unequal, tooDeep, dedents, opened, closed, compared, levelsOf, depthAfter, arrowAfter, LineReply, lineReads, lineHalts, withCuts, withLevels, readLine}
+use Rattle.rules.specs.Reading.{Line, linesOf, content, notLF, Entry, entry, Reading, reads, halts, readFrom, byteSum, tokenSum}
+use Rattle.rules.specs.Replies.{maxBytes, maxLevels, barge}
+use Rattle.rules.specs.Records.{widthWords, lineSize, lineNeed, tokenNeed, packed, stateWords, lineRecord, tokenWords, lineRecords, tokenRecords, endEntry, withEnd, Records, recordsOf, recorded, readLines}
+use Rattle.rules.proofs.ListLaws.{if-by, trimEnd-le}
+use Rattle.rules.proofs.CutLaws.{TokenOk, CutOk, cut-ok}
+use Rattle.rules.proofs.LineLaws.{total, total-lines, first-some, next-line}
+use Rattle.rules.proofs.ReadingLaws.{Step, step, read-sizes, byteSum-append, tokenSum-append}
+use Rattle.rules.proofs.RecordLaws.{Behind, behind}
+use Rattle.rules.proofs.LoopLaws.{ReadTo}
+
+-- The tokens of a line of n bytes.
+
+abbrev pub TokensOk : (n : ℕ) → List Token → Type 0
+TokensOk n [] = Unit {0}
+TokensOk n (t ∷ ts) = (t .kind ≤ Newline) × (t .at + t .size ≤ n) × TokensOk n ts
+
+pub tokens-le : (n m : ℕ) (ts : List Token) → n ≤ m → TokensOk n ts → TokensOk m ts
+tokens-le n m [] h k = tt
+tokens-le n m (t ∷ ts) h k = (k .0, omega (arith, k .1), tokens-le n m ts h (k .2))
+
+pub tokens-append : (n : ℕ) (xs ys : List Token) → TokensOk n xs → TokensOk n ys → TokensOk n (xs ++ ys)
+tokens-append n [] ys h k = k
+tokens-append n (t ∷ xs) ys h k = (h .0, h .1, tokens-append n xs ys (h .2) k)
+
+dedents-ok : (n i : ℕ) → TokensOk n (dedents i)
+dedents-ok n zero = tt
+dedents-ok n (suc i) = (omega arith, omega arith, dedents-ok n i)
+
+-- the cuts of s at an offset
+abbrev CutsOk : (at : ℕ) → List ℕ → List Token → Type 0
+CutsOk at s ts = (length ts ≤ length s) × TokensOk (at + length s) ts
+
+step-ok : (at b : ℕ) (s : List ℕ) (c : Cut) → CutOk (b ∷ s) c → (next : ℕ → Cuts)
+    → ((skip : ℕ) (ts : List Token) → next skip ≡ cuts ts → CutsOk (suc at) s ts)
+    → (ts : List Token) → cutStep at c next ≡ cuts ts → CutsOk at (b ∷ s) ts
+unfolding cutStep withToken
+step-ok at b s blank z next ih ts h =
+    let i = ih 0 ts h in
+    (omega (arith, i .0), tokens-le (suc at + length s) (at + suc (length s)) ts (omega arith) (i .1))
+step-ok at b s comment z next ih ts h = let e : ts ≡ [] = cc in rw e (zero-le, tt)
+step-ok at b s ends z next ih ts h = let e : ts ≡ [] = cc in rw e (zero-le, tt)
+step-ok at b s (fails f) z next ih ts h = let n : _≡_ {A = ℕ} 0 1 = cc in absurd (omega arith)
+step-ok at b s (token k n) z next ih ts h = go (next (pred n)) refl h
+  where
+    go : (x : Cuts) → next (pred n) ≡ x → withToken (tokenAt k at n) x ≡ cuts ts → CutsOk at (b ∷ s) ts
+    go (stops f) e p = let n : _≡_ {A = ℕ} 0 1 = cc in absurd (omega arith)
+    go (cuts us) e p =
+        let i = ih (pred n) us e in
+        let r : ts ≡ tokenAt k at n ∷ us = cc in
+        rw r (omega (arith, i .0), (omega (arith, z .kind-lt), omega (arith, z .in-line), tokens-le (suc at + length s) (at + suc (length s)) us (omega arith) (i .1)))
+
+pub cuts-ok : (at skip : ℕ) (s : List ℕ) (ts : List Token) → cutsFrom at skip s ≡ cuts ts → CutsOk at s ts
+unfolding cutsFrom
+cuts-ok at skip [] ts h = let e : ts ≡ [] = cc in rw e (zero-le, tt)
+cuts-ok at (suc skip) (b ∷ s) ts h =
+    let i = cuts-ok (suc at) skip s ts h in
+    (omega (arith, i .0), tokens-le (suc at + length s) (at + suc (length s)) ts (omega arith) (i .1))
+cuts-ok at zero (b ∷ s) ts h =
+    step-ok at b s (cut (b ∷ s)) (cut-ok (b ∷ s)) (λ skip. cutsFrom (suc at) skip s) (λ skip us e. cuts-ok (suc at) skip s us e) ts h
+
+-- Levels.
+
+abbrev pub AllLe : ℕ → List ℕ → Type 0
+AllLe b [] = Unit {0}
+AllLe b (x ∷ xs) = (x ≤ b) × AllLe b xs
+
+pub all-append : (b : ℕ) (xs ys : List ℕ) → AllLe b xs → AllLe b ys → AllLe b (xs ++ ys)
+all-append b [] ys h k = k
+all-append b (x ∷ xs) ys h k = (h .0, all-append b xs ys (h .1) k)
+
+pub all-take : (b n : ℕ) (xs : List ℕ) → AllLe b xs → AllLe b (take n xs)
+all-take b zero xs h = tt
+all-take b (suc n) [] h = tt
+all-take b (suc n) (x ∷ xs) h = (h .0, all-take b n xs (h .1))
+
+pub all-zeros : (b n : ℕ) → AllLe b (replicate n 0)
+all-zeros b zero = tt
+all-zeros b (suc n) = (zero-le, all-zeros b n)
+
+trimmed-all : (b : ℕ) (t : Bool) (x : ℕ) (ys : List ℕ) → x ≤ b → AllLe b ys → AllLe b (trimmed t x ys)
+unfolding trimmed
+trimmed-all b true x [] h k = tt
+trimmed-all b false x [] h k = (h, tt)
+trimmed-all b t x (y ∷ ys) h k = (h, k)
+
+trimEnd-all : (b : ℕ) (f : ℕ → Bool) (xs : List ℕ) → AllLe b xs → AllLe b (trimEnd f xs)
+unfolding trimEnd
+trimEnd-all b f [] h = tt
+trimEnd-all b f (x ∷ xs) h = trimmed-all b (f x) x (trimEnd f xs) (h .0) (trimEnd-all b f xs (h .1))
+
+pub indentWidth-le : (l : List ℕ) → indentWidth l ≤ 4 * length l
+unfolding indentWidth
+indentWidth-le [] = zero-le
+indentWidth-le (b ∷ l) =
+    if-by (λ n. n ≤ 4 * suc (length l)) (isSpace b) (λ _. omega (arith, indentWidth-le l))
+    (λ _. if-by (λ n. n ≤ 4 * suc (length l)) (isTab b) (λ _. omega (arith, indentWidth-le l)) (λ _. zero-le))
+
+-- of the open widths `had` before a line of width w
+pub record LevelsOk (limit w : ℕ) (had : List ℕ) (lead : List Token) (now : List ℕ) : Type 0 where
+  pub count : length lead + length now ≤ length had + 2
+  pub tokens : TokensOk 0 lead
+  pub limited : length had ≤ limit → length now ≤ limit
+  pub widths : (b : ℕ) → w ≤ b → AllLe b had → AllLe b now
+
+abbrev LevelsHold : (limit w : ℕ) → List ℕ → Levels → Type 0
+LevelsHold limit w had (levels lead now) = LevelsOk limit w had lead now
+LevelsHold limit w had unequal = Unit {0}
+LevelsHold limit w had tooDeep = Unit {0}
+
+closed-hold : (limit w : ℕ) (had : List ℕ) → LevelsHold limit w had (closed w had (trimEnd (ltb w) had))
+unfolding closed
+closed-hold limit w had =
+    let left : List ℕ = trimEnd (ltb w) had in
+    let le : length left ≤ length had = trimEnd-le (ltb w) had in
+    let count : length (dedents (length had - length left)) ≡ length had - length left = length-replicate (length had - length left) (tokenAt Dedent 0 0) in
+    if-by (LevelsHold limit w had) (eqb (lastD left 0) w)
+    (λ _. record {
+      count = omega arith;
+      tokens = dedents-ok 0 (length had - length left);
+      limited = λ h. omega arith;
+      widths = λ b h k. trimEnd-all b (ltb w) had k;
+    })
+    (λ _. tt)
+
+compared-hold : (limit w : ℕ) (had : List ℕ) → LevelsHold limit w had (compared limit w had)
+unfolding compared opened
+compared-hold limit w had =
+    if-by (LevelsHold limit w had) (ltb (lastD had 0) w)
+    (λ _. if-by (LevelsHold limit w had) (ltb (length had) limit)
+    (λ x. record {
+      count = omega (arith, length-append had (w ∷ []));
+      tokens = (omega arith, omega arith, tt);
+      limited = λ h. omega (arith, length-append had (w ∷ []), ltb-true (length had) limit x);
+      widths = λ b h k. all-append b had (w ∷ []) k (h, tt);
+    })
+    (λ _. tt))
+    (λ _. closed-hold limit w had)
+
+levels-hold : (limit : ℕ) (s : State) (l : List ℕ) → LevelsHold limit (indentWidth l) (s .widths) (levelsOf limit s l)
+unfolding levelsOf
+levels-hold limit s l =
+    if-by (LevelsHold limit (indentWidth l) (s .widths)) (isCompared s l) (λ _. compared-hold limit (indentWidth l) (s .widths))
+    (λ _. record { count = omega arith; tokens = tt; limited = λ h. h; widths = λ b h k. k })
+
+-- A line of n bytes, read from s to z.
+
+depth-step : (d k : ℕ) → (if eqb k LParen then suc d else if eqb k RParen then pred d else d) ≤ suc d
+depth-step d k = if-by (λ n. n ≤ suc d) (eqb k LParen) (λ _. omega arith) (λ _. if-by (λ n. n ≤ suc d) (eqb k RParen) (λ _. omega arith) (λ _. omega arith))
+
+depth-le : (d : ℕ) (ts : List Token) → depthAfter d ts ≤ d + length ts
+unfolding depthAfter
+depth-le d [] = omega arith
+depth-le d (t ∷ ts) = omega (arith, depth-step d (t .kind), depth-le (if eqb (t .kind) LParen then suc d else if eqb (t .kind) RParen then pred d else d) ts)
+
+pub record LineOk (limit : ℕ) (s : State) (n : ℕ) (ts : List Token) (z : State) : Type 0 where
+  pub count : length ts + length (z .widths) ≤ length (s .widths) + n + 3
+  pub tokens : TokensOk n ts
+  pub depth : z .depth ≤ s .depth + n
+  pub limited : length (s .widths) ≤ limit → length (z .widths) ≤ limit
+  pub widths : (b : ℕ) → 4 * n ≤ b → AllLe b (s .widths) → AllLe b (z .widths)
+
+cuts-line : (limit : ℕ) (s : State) (l : List ℕ) (lead : List Token) (now : List ℕ) → LevelsOk limit (indentWidth l) (s .widths) lead now
+    → (c : Cuts) → cutsFrom 0 0 l ≡ c → (ts : List Token) (z : State) → withCuts s l lead now c ≡ lineReads ts z → LineOk limit s (length l) ts z
+unfolding withCuts
+cuts-line limit s l lead now o (stops f) e ts z h = let n : _≡_ {A = ℕ} 0 1 = cc in absurd (omega arith)
+cuts-line limit s l lead now o (cuts us) e ts z h =
+    let c = cuts-ok 0 0 l us e in
+    let ht : ts ≡ lead ++ (us ++ (tokenAt Newline (length l) 0 ∷ [])) = cc in
+    let hz : z ≡ record { depth = depthAfter (s .depth) us; arrow = arrowAfter false us; widths = now } = cc in
+    rw (ht, hz) record {
+      count = omega (arith, length-append lead (us ++ (tokenAt Newline (length l) 0 ∷ [])), length-append us (tokenAt Newline (length l) 0 ∷ []), c .0, o .count);
+      tokens = tokens-append (length l) lead _ (tokens-le 0 (length l) lead zero-le (o .tokens))
+          (tokens-append (length l) us _ (tokens-le (0 + length l) (length l) us (omega arith) (c .1)) (omega arith, omega arith, tt));
+      depth = omega (arith, depth-le (s .depth) us, c .0);
+      limited = o .limited;
+      widths = λ b h k. o .widths b (omega (arith, indentWidth-le l)) k;
+    }
+
+levels-line : (limit : ℕ) (s : State) (l : List ℕ) (v : Levels) → LevelsHold limit (indentWidth l) (s .widths) v
+    → (ts : List Token) (z : State) → withLevels s l v ≡ lineReads ts z → LineOk limit s (length l) ts z
+unfolding withLevels
+levels-line limit s l (levels lead now) o ts z h = cuts-line limit s l lead now o (cutsFrom 0 0 l) refl ts z h
+levels-line limit s l unequal o ts z h = let n : _≡_ {A = ℕ} 0 1 = cc in absurd (omega arith)
+levels-line limit s l tooDeep o ts z h = let n : _≡_ {A = ℕ} 0 1 = cc in absurd (omega arith)
+
+pub line-ok : (limit : ℕ) (s : State) (l : List ℕ) (ts : List Token) (z : State) → readLine limit s l ≡ lineReads ts z → LineOk limit s (length l) ts z
+unfolding readLine
+line-ok limit s l ts z h = levels-line limit s l (levelsOf limit s l) (levels-hold limit s l) ts z h
+
+-- Lines read from s to z.
+
+content-le : (l : Line) → length (content l) ≤ length l
+unfolding content
+content-le l = omega (arith, length-take (run notLF l) l)
+
+-- the tokens with the levels left open: at most one for each byte and three for each line
+pub count-le : (limit : ℕ) (s : State) (ls : List Line) (es : List Entry) (z : State) → readFrom limit s ls ≡ reads es z
+    → tokenSum es + length (z .widths) ≤ length (s .widths) + total ls + 3 * length ls
+unfolding readFrom byteSum tokenSum lineRecord lineRecords tokenWords tokenRecords recordsOf content linesOf
+count-le limit s [] es z h =
+    let c : es ≡ [] = cc in
+    let d : s ≡ z = cc in
+    rw (c, d) (omega arith)
+count-le limit s (l ∷ ls) es z h =
+    let st = step limit s l (readLine limit s (content l)) (λ y. readFrom limit y ls) es z h in
+    let o = line-ok limit s (content l) (st .ts) (st .mid) (st .line-is) in
+    let ih = count-le limit (st .mid) ls (st .rest) z (st .rest-is) in
+    rw (st .entries-are) (omega (arith, o .count, content-le l, ih))
+
+pub record StateOk (limit b : ℕ) (s : State) : Type 0 where
+  pub limited : length (s .widths) ≤ limit
+  pub depth : s .depth ≤ b
+  pub widths : AllLe b (s .widths)
+
+abbrev pub EntriesOk : (limit b : ℕ) → List Entry → Type 0
+EntriesOk limit b [] = Unit {0}
+EntriesOk limit b (e ∷ es) = StateOk limit b (e .before) × TokensOk (e .size) (e .tokens) × EntriesOk limit b es
+
+pub entries-ok : (limit b : ℕ) (s : State) (ls : List Line) (es : List Entry) (z : State) → readFrom limit s ls ≡ reads es z
+    → length (s .widths) ≤ limit → AllLe b (s .widths) → s .depth + 4 * total ls ≤ b → EntriesOk limit b es × StateOk limit b z
+unfolding readFrom byteSum tokenSum lineRecord lineRecords tokenWords tokenRecords recordsOf content linesOf
+entries-ok limit b s [] es z h hl hw hb =
+    let c : es ≡ [] = cc in
+    let d : s ≡ z = cc in
+    rw (c, ← d) (tt, record { limited = hl; depth = omega arith; widths = hw })
+entries-ok limit b s (l ∷ ls) es z h hl hw hb =
+    let st = step limit s l (readLine limit s (content l)) (λ y. readFrom limit y ls) es z h in
+    let o = line-ok limit s (content l) (st .ts) (st .mid) (st .line-is) in
+    let c = content-le l in
+    let ih = entries-ok limit b (st .mid) ls (st .rest) z (st .rest-is) (o .limited hl) (o .widths b (omega (arith, c)) hw) (omega (arith, o .depth, c)) in
+    rw (st .entries-are) (
+      (record { limited = hl; depth = omega arith; widths = hw }, tokens-le (length (content l)) (length l) (st .ts) c (o .tokens), ih .0),
+      ih .1,
+    )
+
+-- The words of records.
+
+state-words : (b : ℕ) (s : State) → maxLevels ≤ b → StateOk maxLevels b s → AllLe b (stateWords s)
+unfolding stateWords packed
+state-words b s h o =
+    let ws : AllLe b (packed (s .widths)) =
+    all-take b widthWords (s .widths ++ replicate maxLevels 0) (all-append b (s .widths) (replicate maxLevels 0) (o .widths) (all-zeros b maxLevels)) in
+    (o .depth, (bit-le (s .arrow), (omega (arith, o .limited), ws)))
+  where
+    bit-le : (a : Bool) → bit a ≤ b
+    bit-le true = omega arith
+    bit-le false = omega arith
+
+pub line-words : (b p k : ℕ) (es : List Entry) → maxLevels ≤ b → EntriesOk maxLevels b es → p + byteSum es ≤ b → k + tokenSum es ≤ b → AllLe b (lineRecords p k es)
+unfolding readFrom byteSum tokenSum lineRecord lineRecords tokenWords tokenRecords recordsOf content linesOf
+line-words b p k [] h o hp hk = tt
+line-words b p k (e ∷ es) h o hp hk =
+    all-append b (lineRecord p k (e .before)) _ (omega arith, (omega arith, state-words b (e .before) h (o .0)))
+    (line-words b (p + e .size) (k + length (e .tokens)) es h (o .2) (omega arith) (omega arith))
+
+token-words : (b p l n : ℕ) (ts : List Token) → Newline ≤ b → TokensOk n ts → suc (p + n) ≤ b → l ≤ b → AllLe b (tokenWords p l ts)
+unfolding tokenWords
+token-words b p l n [] h o hp hl = tt
+token-words b p l n (t ∷ ts) h o hp hl = (omega (arith, o .0), (omega (arith, o .1), (omega (arith, o .1), (hl, (omega (arith, o .1), token-words b p l n ts h (o .2) hp hl)))))
+
+pub all-token-words : (b p l : ℕ) (es : List Entry) → Newline ≤ b → EntriesOk maxLevels b es → suc (p + byteSum es) ≤ b → l + length es ≤ b → AllLe b (tokenRecords p l es)
+unfolding readFrom byteSum tokenSum lineRecord lineRecords tokenWords tokenRecords recordsOf content linesOf
+all-token-words b p l [] h o hp hl = tt
+all-token-words b p l (e ∷ es) h o hp hl =
+    all-append b (tokenWords p l (e .tokens)) _ (token-words b p l (e .size) (e .tokens) h (o .1) (omega arith) (omega arith))
+    (all-token-words b (p + e .size) (suc l) es h (o .2) (omega arith) (omega arith))
+
+-- A text within the limit that reads.
+
+-- each line has a byte
+pub lines-le : (t : List ℕ) (ls : List Line) → linesOf t ≡ ls → length ls ≤ total ls
+lines-le t [] h = zero-le
+lines-le t (l ∷ ls) h = omega (arith, first-some t l ls h, lines-le (drop (length l) t) ls (next-line t l ls h))
+
+-- what every word is bounded by, far below 2 ^ 32
+abbrev pub wordMax : ℕ
+wordMax = 4 * maxBytes
+
+pub record Small (r : Records) : Type 0 where
+  pub n-le : r .head .n ≤ maxBytes
+  pub m-le : r .head .m ≤ r .head .n
+  pub k-le : r .head .k ≤ 4 * r .head .n
+  pub line-need : lineNeed (r .head .m) ≤ 22_020_117
+  pub token-need : tokenNeed (r .head .k) ≤ 20_971_520
+  pub lines : AllLe wordMax (r .lines)
+  pub tokens : AllLe wordMax (r .tokens)
+
+entries-append : (limit b : ℕ) (xs ys : List Entry) → EntriesOk limit b xs → EntriesOk limit b ys → EntriesOk limit b (xs ++ ys)
+entries-append limit b [] ys h k = k
+entries-append limit b (e ∷ xs) ys h k = (h .0, h .1, entries-append limit b xs ys (h .2) k)
+
+pub fresh-small : (t : List ℕ) (r : Records) → length t ≤ maxBytes → readLines barge t ≡ recorded r → Small r
+unfolding readFrom byteSum tokenSum lineRecord lineRecords tokenWords tokenRecords recordsOf content linesOf
+fresh-small t r ht h = rw (b .records-are) (go (b .entries) (b .end) (b .reads-are))
+  where
+    b : Behind t r
+    b = behind t r h
+
+    go : (es : List Entry) (z : State) → readFrom maxLevels initial (linesOf t) ≡ reads es z → Small (recordsOf es z)
+    go es z e =
+        let n : total (linesOf t) ≡ length t = total-lines t in
+        let s = read-sizes maxLevels initial (linesOf t) es z e in
+        let m : length (linesOf t) ≤ total (linesOf t) = lines-le t (linesOf t) refl in
+        let c : tokenSum es + length (z .widths) ≤ 0 + total (linesOf t) + 3 * length (linesOf t) = count-le maxLevels initial (linesOf t) es z e in
+        let w : length (dedents (length (z .widths))) ≡ length (z .widths) = length-replicate (length (z .widths)) (tokenAt Dedent 0 0) in
+        let k : tokenSum (withEnd es z) ≡ tokenSum es + length (z .widths) = omega (arith, tokenSum-append es (endEntry z ∷ [])) in
+        let d : byteSum (withEnd es z) ≡ byteSum es = omega (arith, byteSum-append es (endEntry z ∷ [])) in
+        let x : length (withEnd es z) ≡ suc (length es) = omega (arith, length-append es (endEntry z ∷ [])) in
+        let o = entries-ok maxLevels wordMax initial (linesOf t) es z e zero-le tt (omega arith) in
+        let oe : EntriesOk maxLevels wordMax (withEnd es z) =
+        entries-append maxLevels wordMax es (endEntry z ∷ []) (o .0) (o .1, dedents-ok 0 (length (z .widths)), tt) in
+        record {
+          n-le = omega (arith, s .1);
+          m-le = omega (arith, s .0, s .1);
+          k-le = omega (arith, s .0, s .1);
+          line-need = omega (arith, s .0);
+          token-need = omega arith;
+          lines = line-words wordMax 0 0 (withEnd es z) (omega arith) oe (omega (arith, s .1)) (omega arith);
+          tokens = all-token-words wordMax 0 1 (withEnd es z) (omega arith) oe (omega (arith, s .1)) (omega (arith, s .0));
+        }
+
+-- A reading that has come to byte p of a text within the limit: what a loop has so far is small.
+pub record SmallAt (p : ℕ) (es : List Entry) (z : State) : Type 0 where
+  pub lines : length es ≤ p
+  pub tokens : tokenSum es + length (z .widths) ≤ 4 * p
+  pub entries : EntriesOk maxLevels wordMax es
+  pub state : StateOk maxLevels wordMax z
+
+pub read-small : (t : List ℕ) (p : ℕ) (es : List Entry) (z : State) → length t ≤ maxBytes → p ≤ length t → ReadTo maxLevels initial t p es z → SmallAt p es z
+read-small t p es z ht hp r =
+    let n = read-sizes maxLevels initial (r .lines) es z (r .reads-are) in
+    let c : tokenSum es + length (z .widths) ≤ 0 + total (r .lines) + 3 * length (r .lines) = count-le maxLevels initial (r .lines) es z (r .reads-are) in
+    let m : length (r .lines) ≤ total (r .lines) = part-le (linesOf t) (r .lines) (linesOf (drop p t)) (r .split) t refl in
+    let o = entries-ok maxLevels wordMax initial (r .lines) es z (r .reads-are) zero-le tt (omega (arith, n .1, r .bytes)) in
+    record { lines = omega (arith, n .0, n .1, r .bytes); tokens = omega (arith, n .1, r .bytes); entries = o .0; state = o .1 }
+  where
+    -- the first lines of a text, each with a byte
+    part-le : (ls xs ys : List Line) → ls ≡ xs ++ ys → (t : List ℕ) → linesOf t ≡ ls → length xs ≤ total xs
+    part-le ls [] ys e t h = zero-le
+    part-le [] (x ∷ xs) ys e t h = let q : _≡_ {A = ℕ} 0 1 = cc in absurd (omega arith)
+    part-le (l ∷ ls) (x ∷ xs) ys e t h =
+        let a : l ≡ x = cc in
+        let b : ls ≡ xs ++ ys = cc in
+        omega (arith, first-some t l ls h, ap length a, part-le ls xs ys b (drop (length l) t) (next-line t l ls h))

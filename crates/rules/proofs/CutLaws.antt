@@ -1,0 +1,266 @@
+-- Laws of cuts: a token has a kind below Indent and at least one byte, and stays in its line; the cuts of a line, as a loop meets them.
+-- Assumes nothing.
+use Prim.Native.Nat.{ℕ, zero, suc, _+_, _-_, _≤_, _<_, zero-le, suc-le-suc, pred}
+use Prim.Native.Char.{code}
+use mathlib.Core.Path.{_≡_, refl, sym, _∙_, ap, subst}
+use mathlib.Core.Bool.{Bool, true, false, _&&_, _||_, not}
+use mathlib.Core.List.{List, [], _∷_, _++_}
+use native.Mathlib.Omega.{arith}
+use lib.Dec.{ltb, eqb}
+use lib.ListN.{length, getD, take, drop, length-drop, drop-of-length-le}
+use lib.Seq.{drop-cons, drop-drop}
+use borrow.Author.Tests.{ltb-true, lt-ltb, le-ltb}
+use Rattle.rules.specs.Lists.{if_then_else_, within, ascii, every, elem, same, run, begins, trimEnd}
+use Rattle.rules.specs.Kinds.{kindNames, placeIn, kindNamed, Ident, Num, ByteLit, Str, Indent}
+use Rattle.rules.specs.Tables.{isBlank, isCR, isDigit, isLetter, isHexDigit, isSign, classOf, Spelling, keywords, signs, wordKind, tableRules}
+use Rattle.rules.specs.Failure.{Failure, failure, unterminatedString}
+use Rattle.rules.specs.Cut.{Cut, blank, comment, ends, token, fails, failing, finding, inDecimal, inHex, inWord, inString, fractionSize, decimalSize, digitsSize, suffixes, suffixSize, scanNumber, numberCut, stringEnd, stringCut, closingCut, lowDigitCut, highDigitCut, escapeCut, contentCut, byteCut, wordCut, letterCut, signCut, cutBy, cut}
+use Rattle.rules.specs.Line.{Token, tokenAt, movedBy, Cuts, cuts, stops, withToken, cutStep, cutsFrom}
+use Rattle.rules.proofs.ListLaws.{if-by, or-by, or-left, and-left, and-true, run-some, run-le, begins-le, trimEnd-le, trimEnd-drop}
+
+-- A cut by the class of its first byte.
+
+pub record CutCases (P : Cut → Type 0) (b : ℕ) (s : List ℕ) : Type 0 where
+  pub blanks : isBlank b ≡ true → P blank
+  pub comments : P comment
+  pub letters : isLetter b ≡ true → P (letterCut (b ∷ s))
+  pub digits : isDigit b ≡ true → P (numberCut (b ∷ s))
+  pub strings : eqb b (code "\"") ≡ true → P (stringCut (b ∷ s))
+  pub others : P (finding 1 0 (b ∷ s))
+  pub sign : isSign b ≡ true → begins (ascii "//") (b ∷ s) ≡ false → P (signCut signs (b ∷ s))
+
+pub cut-cases : (P : Cut → Type 0) (b : ℕ) (s : List ℕ) → CutCases P b s → P (cut (b ∷ s))
+unfolding cut cutBy classOf
+cut-cases P b s c =
+    if-by (λ x. P (cutBy x (b ∷ s))) (isBlank b) (c .blanks)
+    (λ _. if-by (λ x. P (cutBy x (b ∷ s))) (eqb b (code "#")) (λ _. c .comments)
+    (λ _. if-by (λ x. P (cutBy x (b ∷ s))) (isLetter b) (c .letters)
+    (λ _. if-by (λ x. P (cutBy x (b ∷ s))) (isDigit b) (c .digits)
+    (λ _. if-by (λ x. P (cutBy x (b ∷ s))) (eqb b (code "\"")) (c .strings)
+    (λ _. if-by (λ x. P (cutBy x (b ∷ s))) (isSign b) (λ h. if-by P (begins (ascii "//") (b ∷ s)) (λ _. c .comments) (c .sign h))
+    (λ _. c .others))))))
+
+-- What is known of a cut of s.
+
+pub record TokenOk (s : List ℕ) (kind size : ℕ) : Type 0 where
+  pub kind-lt : kind < Indent
+  pub some-bytes : 0 < size
+  pub in-line : size ≤ length s
+
+abbrev pub CutOk : List ℕ → Cut → Type 0
+CutOk s blank = Unit {0}
+CutOk s comment = Unit {0}
+CutOk s ends = Unit {0}
+CutOk s (token k n) = TokenOk s k n
+CutOk s (fails f) = Unit {0}
+
+-- Numbers.
+
+fraction-le : (s : List ℕ) → fractionSize s ≤ length s
+unfolding fractionSize begins
+fraction-le [] = zero-le
+fraction-le (x ∷ s) =
+    if-by (λ n. n ≤ suc (length s)) (begins (ascii ".") (x ∷ s) && ltb 0 (run isDigit s)) (λ _. suc-le-suc (run-le inDecimal s)) (λ _. zero-le)
+
+suffix-le : (xs : List (List ℕ)) (s : List ℕ) → suffixSize xs s ≤ length s
+unfolding suffixSize
+suffix-le [] s = zero-le
+suffix-le (x ∷ xs) s = if-by (λ n. n ≤ length s) (begins x s) (begins-le x s) (λ _. suffix-le xs s)
+
+decimal-le : (s : List ℕ) → decimalSize s ≤ length s
+unfolding decimalSize
+decimal-le s = omega (arith, run-le inDecimal s, fraction-le (drop (run inDecimal s) s), length-drop (run inDecimal s) s)
+
+abbrev InLine : List ℕ → ℕ → Type 0
+InLine s n = (0 < n) × (n ≤ length s)
+
+hex-in : (s : List ℕ) → 2 ≤ length s → InLine s (2 + run inHex (drop 2 s))
+hex-in s h = (omega arith, omega (arith, run-le inHex (drop 2 s), length-drop 2 s))
+
+digits-in : (b : ℕ) (s : List ℕ) → isDigit b ≡ true → InLine (b ∷ s) (digitsSize (b ∷ s))
+unfolding digitsSize decimalSize inDecimal
+digits-in b s h =
+    if-by (InLine (b ∷ s)) (begins (ascii "0x") (b ∷ s) || begins (ascii "0X") (b ∷ s))
+    (or-by (begins (ascii "0x") (b ∷ s)) (begins (ascii "0X") (b ∷ s))
+    (λ k. hex-in (b ∷ s) (begins-le (ascii "0x") (b ∷ s) k))
+    (λ k. hex-in (b ∷ s) (begins-le (ascii "0X") (b ∷ s) k)))
+    (λ _. (omega (arith, run-some inDecimal b s (or-left (isDigit b) (eqb b (code "_")) h)), decimal-le (b ∷ s)))
+
+number-ok : (b : ℕ) (s : List ℕ) → isDigit b ≡ true → CutOk (b ∷ s) (numberCut (b ∷ s))
+unfolding numberCut scanNumber
+number-ok b s h =
+    let d = digits-in b s h in
+    record {
+      kind-lt = omega arith;
+      some-bytes = omega (arith, d .0);
+      in-line = omega (arith, d .1, suffix-le suffixes (drop (digitsSize (b ∷ s)) (b ∷ s)), length-drop (digitsSize (b ∷ s)) (b ∷ s));
+    }
+
+-- Strings and byte literals.
+
+string-ok : (s : List ℕ) → CutOk s (stringCut s)
+unfolding stringCut
+string-ok s =
+    if-by (CutOk s) (ltb (stringEnd s) (length s))
+    (λ h. record { kind-lt = omega arith; some-bytes = omega arith; in-line = ltb-true (stringEnd s) (length s) h }) (λ _. tt)
+
+-- of a literal in s, what is left from offset k on
+module _ (s : List ℕ) where
+  closing-ok : (k : ℕ) (r : List ℕ) → k + length r ≤ length s → CutOk s (closingCut k r)
+  unfolding closingCut
+  closing-ok k [] h = tt
+  closing-ok k (c ∷ r) h =
+      if-by (CutOk s) (eqb c (code "'")) (λ _. record { kind-lt = omega arith; some-bytes = omega arith; in-line = omega arith }) (λ _. tt)
+
+  low-ok : (r : List ℕ) → 5 + length r ≤ length s → CutOk s (lowDigitCut r)
+  unfolding lowDigitCut
+  low-ok [] h = tt
+  low-ok (c ∷ r) h = if-by (CutOk s) (isHexDigit c) (λ _. closing-ok 6 r (omega arith)) (λ _. tt)
+
+  high-ok : (r : List ℕ) → 4 + length r ≤ length s → CutOk s (highDigitCut r)
+  unfolding highDigitCut
+  high-ok [] h = tt
+  high-ok (c ∷ r) h =
+      if-by (CutOk s) (within (code "0") (code "7") c) (λ _. low-ok r (omega arith)) (λ _. if-by (CutOk s) (isHexDigit c) (λ _. tt) (λ _. tt))
+
+  escape-ok : (r : List ℕ) → 3 + length r ≤ length s → CutOk s (escapeCut r)
+  unfolding escapeCut
+  escape-ok [] h = tt
+  escape-ok (c ∷ r) h =
+      if-by (CutOk s) (elem c (ascii "0tnr'\\\"")) (λ _. closing-ok 4 r (omega arith))
+      (λ _. if-by (CutOk s) (eqb c (code "x")) (λ _. high-ok r (omega arith)) (λ _. tt))
+
+  content-ok : (r : List ℕ) → 2 + length r ≤ length s → CutOk s (contentCut r)
+  unfolding contentCut
+  content-ok [] h = tt
+  content-ok (c ∷ r) h =
+      if-by (CutOk s) (eqb c (code "'")) (λ _. tt)
+      (λ _. if-by (CutOk s) (eqb c (code "\\")) (λ _. escape-ok r (omega arith))
+      (λ _. if-by (CutOk s) (within 0x20 0x7E c) (λ _. closing-ok 3 r (omega arith))
+      (λ _. if-by (CutOk s) (ltb c 0x80) (λ _. tt) (λ _. tt))))
+
+byte-ok : (s : List ℕ) → 2 ≤ length s → CutOk s (byteCut s)
+unfolding byteCut
+byte-ok s h = content-ok s (drop 2 (trimEnd isCR s)) (omega (arith, length-drop 2 (trimEnd isCR s), trimEnd-le isCR s))
+
+-- Words and signs.
+
+-- a spelling has a byte and a kind below Indent
+abbrev spellingOk : Spelling → Bool
+spellingOk k = ltb (k .kind) Indent && ltb 0 (length (k .bytes))
+
+keywords-ok : every spellingOk keywords ≡ true
+unfolding tableRules
+keywords-ok = refl
+
+signs-ok : every spellingOk signs ≡ true
+unfolding tableRules
+signs-ok = refl
+
+word-kind : (ks : List Spelling) (w : List ℕ) → every spellingOk ks ≡ true → wordKind ks w < Indent
+unfolding wordKind every
+word-kind [] w h = omega arith
+word-kind (k ∷ ks) w h =
+    let a = and-true (spellingOk k) (every spellingOk ks) h in
+    if-by (λ n. n < Indent) (same (k .bytes) w) (λ _. ltb-true (k .kind) Indent (and-left (ltb (k .kind) Indent) _ (a .0))) (λ _. word-kind ks w (a .1))
+
+letter-ok : (b : ℕ) (s : List ℕ) → isLetter b ≡ true → CutOk (b ∷ s) (letterCut (b ∷ s))
+unfolding letterCut wordCut inWord
+letter-ok b s h =
+    if-by (CutOk (b ∷ s)) (begins (ascii "b'") (b ∷ s)) (λ k. byte-ok (b ∷ s) (begins-le (ascii "b'") (b ∷ s) k))
+    (λ _. record {
+      kind-lt = word-kind keywords (take (run inWord (b ∷ s)) (b ∷ s)) keywords-ok;
+      some-bytes = run-some inWord b s (or-left (isLetter b) (inDecimal b) h);
+      in-line = run-le inWord (b ∷ s);
+    })
+
+sign-ok : (ks : List Spelling) (s : List ℕ) → every spellingOk ks ≡ true → CutOk s (signCut ks s)
+unfolding signCut every
+sign-ok [] s h = tt
+sign-ok (k ∷ ks) s h =
+    let a = and-true (spellingOk k) (every spellingOk ks) h in
+    let b = and-true (ltb (k .kind) Indent) (ltb 0 (length (k .bytes))) (a .0) in
+    if-by (CutOk s) (begins (k .bytes) s)
+    (λ e. record { kind-lt = ltb-true _ _ (b .0); some-bytes = ltb-true _ _ (b .1); in-line = begins-le (k .bytes) s e })
+    (λ _. sign-ok ks s (a .1))
+
+pub cut-ok : (s : List ℕ) → CutOk s (cut s)
+unfolding cut
+cut-ok [] = tt
+cut-ok (b ∷ s) =
+    cut-cases (CutOk (b ∷ s)) b s record {
+      blanks = λ _. tt;
+      comments = tt;
+      letters = letter-ok b s;
+      digits = number-ok b s;
+      strings = λ _. string-ok (b ∷ s);
+      others = tt;
+      sign = λ _ _. sign-ok signs (b ∷ s) signs-ok;
+    }
+
+-- The cuts of a line from an offset on.
+
+-- after `skip` bytes they are those of the rest
+pub cutsFrom-skip : (at skip : ℕ) (s : List ℕ) → cutsFrom at skip s ≡ cutsFrom (at + skip) 0 (drop skip s)
+unfolding cutsFrom
+cutsFrom-skip at zero [] = refl
+cutsFrom-skip at (suc skip) [] = refl
+cutsFrom-skip at zero (b ∷ s) = ap (λ (n : ℕ). cutsFrom n 0 (b ∷ s)) (omega arith)
+cutsFrom-skip at (suc skip) (b ∷ s) =
+    cutsFrom-skip (suc at) skip s ∙ ap (λ (n : ℕ). cutsFrom n 0 (drop skip s)) (omega arith)
+
+cutsFrom-cons : (at : ℕ) (l : List ℕ) → at < length l → cutsFrom at 0 (drop at l) ≡ cutStep at (cut (drop at l)) (λ skip. cutsFrom (suc at) skip (drop (suc at) l))
+unfolding cutsFrom
+cutsFrom-cons at l h = rw (drop-cons l at 0)
+
+pub cuts-end : (at : ℕ) (l : List ℕ) → length l ≤ at → cutsFrom at 0 (drop at l) ≡ cuts []
+unfolding cutsFrom
+cuts-end at l h = rw (drop-of-length-le l h)
+
+-- a step of the loop, by what is cut at offset `at`
+module _ (at : ℕ) (l : List ℕ) (h : at < length l) where
+  cuts-by : (c : Cut) → cut (drop at l) ≡ c → cutsFrom at 0 (drop at l) ≡ cutStep at c (λ skip. cutsFrom (suc at) skip (drop (suc at) l))
+  cuts-by c e = cutsFrom-cons at l h ∙ ap (λ (c : Cut). cutStep at c (λ skip. cutsFrom (suc at) skip (drop (suc at) l))) e
+
+  pub cuts-blank : cut (drop at l) ≡ blank → cutsFrom at 0 (drop at l) ≡ cutsFrom (at + 1) 0 (drop (at + 1) l)
+  unfolding cutStep
+  cuts-blank e = cuts-by blank e ∙ ap (λ (n : ℕ). cutsFrom n 0 (drop n l)) (omega arith)
+
+  pub cuts-comment : cut (drop at l) ≡ comment → cutsFrom at 0 (drop at l) ≡ cuts []
+  unfolding cutStep
+  cuts-comment e = cuts-by comment e
+
+  pub cuts-token : (k n : ℕ) → cut (drop at l) ≡ token k n → cutsFrom at 0 (drop at l) ≡ withToken (tokenAt k at n) (cutsFrom (at + n) 0 (drop (at + n) l))
+  unfolding cutStep
+  cuts-token k n e =
+      let s : TokenOk (drop at l) k n = subst (CutOk (drop at l)) e (cut-ok (drop at l)) in
+      let m : suc at + pred n ≡ at + n = omega arith in
+      cuts-by (token k n) e
+      ∙ ap (withToken (tokenAt k at n))
+      (cutsFrom-skip (suc at) (pred n) (drop (suc at) l) ∙ ap (cutsFrom (suc at + pred n) 0) (drop-drop (pred n) (suc at) l)
+      ∙ ap (λ (i : ℕ). cutsFrom i 0 (drop i l)) m)
+
+  pub cuts-fails : (f : Failure) → cut (drop at l) ≡ fails f → cutsFrom at 0 (drop at l) ≡ stops (movedBy at f)
+  unfolding cutStep
+  cuts-fails f e = cuts-by (fails f) e
+
+-- A string at an index.
+
+pub string-at : (l : List ℕ) (at : ℕ) → stringEnd (drop at l) ≡ suc (run inString (drop (at + 1) l))
+unfolding stringEnd
+string-at l at = rw (drop-drop 1 at l)
+
+module _ (l : List ℕ) (at e : ℕ) (inside : at < length l) (run-to : e ≡ at + 1 + run inString (drop (at + 1) l)) where
+  pub string-token : e < length l → stringCut (drop at l) ≡ token Str (e + 1 - at)
+  unfolding stringCut
+  string-token h =
+      let n : stringEnd (drop at l) ≡ e - at = omega (arith, string-at l at) in
+      let t : ltb (stringEnd (drop at l)) (length (drop at l)) ≡ true = lt-ltb (stringEnd (drop at l)) (length (drop at l)) (omega (arith, length-drop at l)) in
+      rw t (ap (token Str) (omega arith))
+
+  pub string-open : length l ≤ e → stringCut (drop at l) ≡ fails (failure unterminatedString 0 0 (length (trimEnd isCR l) - at))
+  unfolding stringCut
+  string-open h =
+      let n : stringEnd (drop at l) ≡ e - at = omega (arith, string-at l at) in
+      let t : ltb (stringEnd (drop at l)) (length (drop at l)) ≡ false = le-ltb (stringEnd (drop at l)) (length (drop at l)) (omega (arith, length-drop at l)) in
+      rw t (ap (λ (k : ℕ). fails (failure unterminatedString 0 0 k)) (ap length (trimEnd-drop isCR at l) ∙ length-drop at (trimEnd isCR l)))

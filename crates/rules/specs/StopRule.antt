@@ -1,0 +1,62 @@
+-- The edited text, and how many lines are read again.
+-- Assumes nothing.
+use Prim.Native.Nat.{ℕ, _+_, _-_}
+use mathlib.Core.Bool.{Bool, true, false, _&&_, not, Bool·beq}
+use mathlib.Core.List.{List, [], _∷_, _++_}
+use lib.Dec.{ltb, eqb}
+use lib.ListN.{length, take, drop}
+use Rattle.rules.specs.Lists.{any, run, same, listRules}
+use Rattle.rules.specs.Line.{State, initial}
+use Rattle.rules.specs.Reading.{linesOf, countLF, Entry, readFrom, linesRead, readingRules}
+use Rattle.rules.specs.Replies.{maxLevels}
+
+-- bytes a..b become w
+pub record Edit : Type 0 where
+  pub a : ℕ
+  pub b : ℕ
+  pub w : List ℕ
+
+-- the first a bytes, w, and the bytes from b on
+unfoldable pub edited : List ℕ → Edit → List ℕ
+edited t ed = take (ed .a) t ++ (ed .w ++ drop (ed .b) t)
+
+-- a + |w|: where the kept tail begins in the edited text
+abbrev pub keptFrom : Edit → ℕ
+keptFrom ed = ed .a + length (ed .w)
+
+-- where a line starts, with the state before it
+pub record Mark : Type 0 where
+  pub start : ℕ
+  pub state : State
+
+-- the line starts of a reading, the first at p
+unfoldable pub marksFrom : (p : ℕ) → List Entry → List Mark
+marksFrom p [] = []
+marksFrom p (e ∷ es) = record { start = p; state = e .before } ∷ marksFrom (p + e .size) es
+
+-- the line starts of a text, as a fresh reading has them
+unfoldable pub marksOf : List ℕ → List Mark
+marksOf t = marksFrom 0 (linesRead (readFrom maxLevels initial (linesOf t)))
+
+unfoldable pub sameState : State → State → Bool
+sameState s z = eqb (s .depth) (z .depth) && (Bool·beq (s .arrow) (z .arrow) && same (s .widths) (z .widths))
+
+unfoldable pub sameMark : Mark → Mark → Bool
+sameMark x y = eqb (x .start) (y .start) && sameState (x .state) (y .state)
+
+-- the same byte of the kept tail in the old text, with the same state
+abbrev pub oldMark : Edit → Mark → Mark
+oldMark ed m = record { start = ed .b + (m .start - keptFrom ed); state = m .state }
+
+-- re-reading stops at a line start beyond a + |w| whose state equals the old state at the same byte of the kept tail
+unfoldable pub isStop : (old : List Mark) → Edit → Mark → Bool
+isStop old ed m = ltb (keptFrom ed) (m .start) && any (sameMark (oldMark ed m)) old
+
+-- the lines of the edited text from the line after as many LFs as the first a bytes hold to the first stop, otherwise to the end
+unfoldable pub rereadCount : List ℕ → Edit → ℕ
+rereadCount t ed = run (λ m. not (isStop (marksOf t) ed m)) (drop (countLF (take (ed .a) t)) (marksOf (edited t ed)))
+
+-- opens the definitions above, and those of the modules below, where a proof says `unfolding stopRules`
+unfoldable pub stopRules : Unit {0}
+unfolding edited marksFrom marksOf sameState sameMark isStop rereadCount listRules readingRules
+stopRules = tt
