@@ -210,7 +210,7 @@ content-le l = omega (arith, length-take (run notLF l) l)
 -- the tokens with the levels left open: at most one for each byte and three for each line
 pub count-le : (limit : ℕ) (s : State) (ls : List Line) (es : List Entry) (z : State) → readFrom limit s ls ≡ reads es z
     → tokenSum es + length (z .widths) ≤ length (s .widths) + total ls + 3 * length ls
-unfolding readFrom byteSum tokenSum lineRecord lineRecords tokenWords tokenRecords recordsOf content linesOf
+unfolding readFrom tokenSum
 count-le limit s [] es z h =
     let c : es ≡ [] = cc in
     let d : s ≡ z = cc in
@@ -232,7 +232,7 @@ EntriesOk limit b (e ∷ es) = StateOk limit b (e .before) × TokensOk (e .size)
 
 pub entries-ok : (limit b : ℕ) (s : State) (ls : List Line) (es : List Entry) (z : State) → readFrom limit s ls ≡ reads es z
     → length (s .widths) ≤ limit → AllLe b (s .widths) → s .depth + 4 * total ls ≤ b → EntriesOk limit b es × StateOk limit b z
-unfolding readFrom byteSum tokenSum lineRecord lineRecords tokenWords tokenRecords recordsOf content linesOf
+unfolding readFrom
 entries-ok limit b s [] es z h hl hw hb =
     let c : es ≡ [] = cc in
     let d : s ≡ z = cc in
@@ -261,7 +261,7 @@ state-words b s h o =
     bit-le false = omega arith
 
 pub line-words : (b p k : ℕ) (es : List Entry) → maxLevels ≤ b → EntriesOk maxLevels b es → p + byteSum es ≤ b → k + tokenSum es ≤ b → AllLe b (lineRecords p k es)
-unfolding readFrom byteSum tokenSum lineRecord lineRecords tokenWords tokenRecords recordsOf content linesOf
+unfolding byteSum tokenSum lineRecord lineRecords
 line-words b p k [] h o hp hk = tt
 line-words b p k (e ∷ es) h o hp hk =
     all-append b (lineRecord p k (e .before)) _ (omega arith, (omega arith, state-words b (e .before) h (o .0)))
@@ -273,7 +273,7 @@ token-words b p l n [] h o hp hl = tt
 token-words b p l n (t ∷ ts) h o hp hl = (omega (arith, o .0), (omega (arith, o .1), (omega (arith, o .1), (hl, (omega (arith, o .1), token-words b p l n ts h (o .2) hp hl)))))
 
 pub all-token-words : (b p l : ℕ) (es : List Entry) → Newline ≤ b → EntriesOk maxLevels b es → suc (p + byteSum es) ≤ b → l + length es ≤ b → AllLe b (tokenRecords p l es)
-unfolding readFrom byteSum tokenSum lineRecord lineRecords tokenWords tokenRecords recordsOf content linesOf
+unfolding byteSum tokenRecords
 all-token-words b p l [] h o hp hl = tt
 all-token-words b p l (e ∷ es) h o hp hl =
     all-append b (tokenWords p l (e .tokens)) _ (token-words b p l (e .size) (e .tokens) h (o .1) (omega arith) (omega arith))
@@ -304,7 +304,7 @@ entries-append limit b [] ys h k = k
 entries-append limit b (e ∷ xs) ys h k = (h .0, h .1, entries-append limit b xs ys (h .2) k)
 
 pub fresh-small : (t : List ℕ) (r : Records) → length t ≤ maxBytes → readLines barge t ≡ recorded r → Small r
-unfolding readFrom byteSum tokenSum lineRecord lineRecords tokenWords tokenRecords recordsOf content linesOf
+unfolding byteSum tokenSum recordsOf
 fresh-small t r ht h = rw (b .records-are) (go (b .entries) (b .end) (b .reads-are))
   where
     b : Behind t r

@@ -18,3 +18,4 @@ pub mod ContractLaws
 pub mod MovedLaws
 pub mod LoopLaws
 pub mod BoundLaws
+pub mod ReportLaws

@@ -46,7 +46,7 @@ total-lines (b ∷ bs) = total-next (isLF b) b (linesOf bs) ∙ ap suc (total-li
 
 -- what follows the first line
 pub next-line : (t : List ℕ) (l : Line) (ls : List Line) → linesOf t ≡ l ∷ ls → linesOf (drop (length l) t) ≡ ls
-unfolding linesOf onto countLF
+unfolding linesOf onto
 next-line [] l ls e = let z : _≡_ {A = ℕ} 0 1 = cc in absurd (omega arith)
 next-line (b ∷ bs) l ls e = go (next-line bs) (isLF b) (linesOf bs) refl e
   where
@@ -97,7 +97,7 @@ within-next (suc k) false b X n h = rw (onto-take, total-onto) (omega arith)
 
 -- they end within u
 pub total-take-lines : (u v : List ℕ) → total (take (countLF u) (linesOf (u ++ v))) ≤ length u
-unfolding linesOf onto countLF
+unfolding linesOf countLF
 total-take-lines [] v = omega arith
 total-take-lines (b ∷ u) v = within-next (countLF u) (isLF b) b (linesOf (u ++ v)) (length u) (total-take-lines u v)
 
@@ -109,7 +109,7 @@ some-next k false b (l ∷ X) h = h
 
 -- and there are as many as u has LFs
 pub lfs-lines : (u v : List ℕ) → countLF u ≤ length (linesOf (u ++ v))
-unfolding linesOf onto countLF
+unfolding linesOf countLF
 lfs-lines [] v = omega arith
 lfs-lines (b ∷ u) v = some-next (countLF u) (isLF b) b (linesOf (u ++ v)) (lfs-lines u v)
 
@@ -125,18 +125,18 @@ next-append true b X Y h = refl
 next-append false b X Y h = onto-append b X Y h
 
 next-some : (q : Bool) (b : ℕ) (X : List Line) → 0 < length (next q b X)
-unfolding linesOf onto countLF
+unfolding onto
 next-some true b X = omega arith
 next-some false b [] = omega arith
 next-some false b (l ∷ X) = omega arith
 
 lines-some : (u : List ℕ) → 0 < length (linesOf (u ++ 10 ∷ []))
-unfolding linesOf onto countLF
+unfolding linesOf
 lines-some [] = omega arith
 lines-some (b ∷ u) = next-some (isLF b) b (linesOf (u ++ 10 ∷ []))
 
 pub lines-append : (u v : List ℕ) → linesOf (u ++ 10 ∷ v) ≡ linesOf (u ++ 10 ∷ []) ++ linesOf v
-unfolding linesOf onto countLF
+unfolding linesOf
 lines-append [] v = refl
 lines-append (b ∷ u) v =
     ap (next (isLF b) b) (lines-append u v) ∙ next-append (isLF b) b (linesOf (u ++ 10 ∷ [])) (linesOf v) (lines-some u)
@@ -145,7 +145,7 @@ lines-append (b ∷ u) v =
 
 -- no line is empty
 pub first-some : (t : List ℕ) (l : Line) (ls : List Line) → linesOf t ≡ l ∷ ls → 0 < length l
-unfolding linesOf onto countLF
+unfolding linesOf onto
 first-some [] l ls e = let z : _≡_ {A = ℕ} 0 1 = cc in absurd (omega arith)
 first-some (b ∷ bs) l ls e = go (isLF b) (linesOf bs) e
   where
@@ -158,7 +158,7 @@ first-step : (b : ℕ) (bs : List ℕ) (l : Line) (ls : List Line) (k : ℕ)
     → ((m : Line) (ms : List Line) (i : ℕ) → linesOf bs ≡ m ∷ ms → length m < length bs → suc i ≡ length m → getD bs i 0 ≡ 10)
     → (q : Bool) (rest : List Line) → isLF b ≡ q → linesOf bs ≡ rest → next q b rest ≡ l ∷ ls → length l < suc (length bs) → suc k ≡ length l
     → getD (b ∷ bs) k 0 ≡ 10
-unfolding linesOf onto countLF
+unfolding onto
 first-step b bs l ls k ih true rest e r f h hk =
     let hl : l ≡ b ∷ [] = cc in
     let h0 : k ≡ 0 = omega (arith, ap length hl) in
@@ -215,7 +215,7 @@ lf-start t k h e =
 -- the first line, where the first LF is at x
 pub first-line : (t : List ℕ) (x : ℕ) → x < length t → ((k : ℕ) → k < x → getD t k 0 ≡ 10 → ⊥) → getD t x 0 ≡ 10
     → linesOf t ≡ take (suc x) t ∷ linesOf (drop (suc x) t)
-unfolding linesOf onto countLF
+unfolding linesOf onto
 first-line [] x h no-lf e = absurd (omega arith)
 first-line (b ∷ bs) zero h no-lf e = rw (eq-eqb b 10 e)
 first-line (b ∷ bs) (suc x) h no-lf e =
@@ -223,7 +223,7 @@ first-line (b ∷ bs) (suc x) h no-lf e =
 
 -- and where there is none
 pub only-line : (b : ℕ) (bs : List ℕ) → ((k : ℕ) → k < suc (length bs) → getD (b ∷ bs) k 0 ≡ 10 → ⊥) → linesOf (b ∷ bs) ≡ (b ∷ bs) ∷ []
-unfolding linesOf onto countLF
+unfolding linesOf onto
 only-line b [] no-lf = rw (ne-eqb b 10 (no-lf 0 (omega arith)))
 only-line b (c ∷ bs) no-lf = ap (next (isLF b) b) (only-line c bs (λ k hk. no-lf (suc k) (omega arith))) ∙ rw (ne-eqb b 10 (no-lf 0 (omega arith)))
 
@@ -265,7 +265,6 @@ firstByte b t = go (isLF b) refl
 
 -- it ends after an LF that is there
 pub firstSize-lf : (t : List ℕ) → run notLF t < length t → firstSize t ≡ suc (run notLF t)
-unfolding firstSize run
 firstSize-lf [] h = absurd (omega arith)
 firstSize-lf (b ∷ t) h = go (firstByte b t) (firstSize-lf t)
   where
@@ -291,7 +290,6 @@ lines-at t i h = rw (← drop-drop (firstSize (drop i t)) i t) (go (drop i t) (o
     go (b ∷ s) k = linesOf-first b s
 
 run-one : (b : ℕ) (t : List ℕ) → run notLF (b ∷ t) ≡ 0 → run notLF (b ∷ []) ≡ 0
-unfolding run
 run-one b t h = go (notLF b) refl
   where
     go : (x : Bool) → notLF b ≡ x → run notLF (b ∷ []) ≡ 0
@@ -307,7 +305,7 @@ run-more b t u h = go (notLF b) refl
 
 -- the line without its LF is the text up to the LF
 pub content-first : (s : List ℕ) → content (take (firstSize s) s) ≡ take (run notLF s) s
-unfolding content run firstSize
+unfolding content firstSize
 content-first [] = refl
 content-first (b ∷ t) = go (firstByte b t) (content-first t)
   where

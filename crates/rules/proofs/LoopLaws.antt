@@ -58,7 +58,7 @@ module _ (limit : ℕ) (s : State) (t : List ℕ) where
 
     pub read-line : (ts : List Token) (z′ : State) → p < length t → readLine limit z (lineAt t p) ≡ lineReads ts z′
         → ReadTo limit s t (p + sizeAt t p) (es ++ (entry z (sizeAt t p) ts ∷ [])) z′
-    unfolding byteSum recordsOf
+    unfolding byteSum
     read-line ts z′ h e =
         let l : Line = take (sizeAt t p) (drop p t) in
         let e2 : readLine limit z (content l) ≡ lineReads ts z′ = ap (readLine limit z) (content-first (drop p t)) ∙ e in
@@ -150,7 +150,7 @@ module _ (t : List ℕ) (old : List Entry) (end : State) (h : readFrom maxLevels
     pub reread-test : ed .a ≤ ed .b → ed .b ≤ length t → keptFrom ed < fromByte + q → fromByte + q < length (edited t ed)
         → (i : ℕ) × (i < length old) × (byteSum (take i old) ≡ ed .b + (fromByte + q - keptFrom ed))
         × (isStop (marksFrom 0 old) ed (mark (fromByte + q) z) ≡ sameState z (stateAt old end i))
-    unfolding isStop byteSum recordsOf
+    unfolding isStop byteSum
     reread-test hab hb hf hp =
         let w : ReadTo maxLevels initial (edited t ed) (fromByte + q) (take fromLine old ++ es) z = reread-whole in
         let s = old-start t ed hab hb (length (take fromLine old ++ es)) (fromByte + q)
@@ -248,7 +248,7 @@ module _ (old new : List Entry) (end : State) (i j : ℕ) (hi : i ≤ length old
       ++ (lineRecords (byteSum (take i old)) (tokenSum (take i old)) new
       ++ moveLines (byteSum (take j old)) (byteSum (take i old) + byteSum new) (tokenSum (take j old)) (tokenSum (take i old) + tokenSum new) (length (drop j (withEnd old end)))
       (drop (lineSize * j) (recordsOf old end .lines)))
-  unfolding recordsOf lineRecords
+  unfolding recordsOf
   mended-line-records =
       ap (lineRecords 0 0) (with-end old new end i j hj)
       ∙ (rw (take-end, take-end′) at (mended-lines (withEnd old end) new i j (omega (arith, within-end)) (omega (arith, within-end))))
@@ -258,7 +258,7 @@ module _ (old new : List Entry) (end : State) (i j : ℕ) (hi : i ≤ length old
       ++ (tokenRecords (byteSum (take i old)) (1 + i) new
       ++ moveTokens (byteSum (take j old)) (byteSum (take i old) + byteSum new) (1 + j) (1 + i + length new) (tokenSum (drop j (withEnd old end)))
       (drop (tokenSize * tokenSum (take j old)) (recordsOf old end .tokens)))
-  unfolding recordsOf tokenRecords
+  unfolding recordsOf
   mended-token-records =
       ap (tokenRecords 0 1) (with-end old new end i j hj)
       ∙ (rw (take-end, take-end′) at (mended-tokens (withEnd old end) new i j (omega (arith, within-end)) (omega (arith, within-end))))

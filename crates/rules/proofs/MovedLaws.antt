@@ -26,7 +26,7 @@ moveTokens p p′ l l′ (suc k) ws =
 
 move-line : (p p′ l l′ x y i : ℕ) (ts : List Token) (ys : List ℕ)
     → moveTokens p p′ l l′ (length ts + i) (tokenWords (p + x) (l + y) ts ++ ys) ≡ tokenWords (p′ + x) (l′ + y) ts ++ moveTokens p p′ l l′ i ys
-unfolding moveLines moveTokens lineRecord lineRecords tokenWords tokenRecords tokenSum
+unfolding moveTokens tokenWords
 move-line p p′ l l′ x y i [] ys = rw zero-add
 move-line p p′ l l′ x y i (t ∷ ts) ys =
     let h1 : p + x + t .at + p′ - p ≡ p′ + x + t .at = omega arith in
@@ -34,7 +34,7 @@ move-line p p′ l l′ x y i (t ∷ ts) ys =
     rw (suc-add, h1, h2, move-line p p′ l l′ x y i ts ys)
 
 move-tokens : (p p′ l l′ x y : ℕ) (es : List Entry) → tokenRecords (p′ + x) (l′ + y) es ≡ moveTokens p p′ l l′ (tokenSum es) (tokenRecords (p + x) (l + y) es)
-unfolding moveLines moveTokens lineRecord lineRecords tokenWords tokenRecords tokenSum
+unfolding moveTokens tokenRecords tokenSum
 move-tokens p p′ l l′ x y [] = refl
 move-tokens p p′ l l′ x y (e ∷ es) =
     sym (move-line p p′ l l′ x y (tokenSum es) (e .tokens) (tokenRecords (p + x + e .size) (suc (l + y)) es)

@@ -26,7 +26,7 @@ withEntry-andThen e (reads es s) next = refl
 withEntry-andThen e (halts es h) next = refl
 
 line-andThen : (s : State) (l : Line) (y : LineReply) (f next : State → Reading) → lineThen s l y (λ z. andThen (f z) next) ≡ andThen (lineThen s l y f) next
-unfolding lineThen withEntry
+unfolding lineThen
 line-andThen s l (lineReads ts z) f next = withEntry-andThen (entry s (length l) ts) (f z) next
 line-andThen s l (lineHalts h) f next = refl
 
@@ -58,7 +58,7 @@ stateAt (e ∷ es) s (suc i) = stateAt es s i
 module _ (limit : ℕ) where
   -- lines after lines are read from the state reached
   pub readFrom-append : (s : State) (xs ys : List Line) → readFrom limit s (xs ++ ys) ≡ andThen (readFrom limit s xs) (λ z. readFrom limit z ys)
-  unfolding withEntry lineThen readFrom linesRead byteSum tokenSum
+  unfolding readFrom
   readFrom-append s [] ys = refl
   readFrom-append s (l ∷ xs) ys =
       ap (lineThen s l (readLine limit s (content l))) (fun-ext (λ z. readFrom-append z xs ys))
@@ -72,7 +72,7 @@ module _ (limit : ℕ) where
   -- one line more, read or not
   pub read-more : (s : State) (xs : List Line) (es : List Entry) (z : State) (l : Line) (ts : List Token) (z′ : State)
       → readFrom limit s xs ≡ reads es z → readLine limit z (content l) ≡ lineReads ts z′ → readFrom limit s (xs ++ l ∷ []) ≡ reads (es ++ entry z (length l) ts ∷ []) z′
-  unfolding withEntry lineThen readFrom linesRead byteSum tokenSum
+  unfolding withEntry lineThen readFrom
   read-more s xs es z l ts z′ h e = readFrom-append s xs (l ∷ []) ∙ rw (h, e) (withEntries-reads es _ z′)
 
   pub read-halts : (s : State) (xs : List Line) (es : List Entry) (z : State) (l : Line) (ys : List Line) (r : Halt)
@@ -91,7 +91,7 @@ module _ (limit : ℕ) where
     pub entries-are : es ≡ entry s (length l) ts ∷ rest
 
   pub step : (s : State) (l : Line) (y : LineReply) (next : State → Reading) (es : List Entry) (z : State) → lineThen s l y next ≡ reads es z → Step s l y next es z
-  unfolding withEntry lineThen readFrom linesRead byteSum tokenSum
+  unfolding withEntry lineThen
   step s l (lineHalts h) next es z e = let n : _≡_ {A = ℕ} 0 1 = cc in absurd (omega arith)
   step s l (lineReads ts mid) next es z e = go (next mid) refl e
     where
@@ -106,7 +106,7 @@ module _ (limit : ℕ) where
     pub sizes : total (take i ls) ≡ byteSum (take i es)
 
   pub parts : (i : ℕ) (s : State) (ls : List Line) (es : List Entry) (z : State) → readFrom limit s ls ≡ reads es z → Parts s ls es z i
-  unfolding withEntry lineThen readFrom linesRead byteSum tokenSum
+  unfolding withEntry lineThen readFrom byteSum
   parts i s [] es z h =
       let c : es ≡ [] = cc in
       let d : s ≡ z = cc in
@@ -130,7 +130,7 @@ module _ (limit : ℕ) where
 
   -- an entry for each line, of its size
   pub read-sizes : (s : State) (ls : List Line) (es : List Entry) (z : State) → readFrom limit s ls ≡ reads es z → (length es ≡ length ls) × (byteSum es ≡ total ls)
-  unfolding withEntry lineThen readFrom linesRead byteSum tokenSum
+  unfolding readFrom byteSum
   read-sizes s [] es z h =
       let c : es ≡ [] = cc in
       rw c (refl, refl)
@@ -142,11 +142,11 @@ module _ (limit : ℕ) where
 -- Sums.
 
 pub byteSum-append : (xs ys : List Entry) → byteSum (xs ++ ys) ≡ byteSum xs + byteSum ys
-unfolding withEntry lineThen readFrom linesRead byteSum tokenSum
+unfolding byteSum
 byteSum-append [] ys = omega arith
 byteSum-append (e ∷ xs) ys = omega (arith, byteSum-append xs ys)
 
 pub tokenSum-append : (xs ys : List Entry) → tokenSum (xs ++ ys) ≡ tokenSum xs + tokenSum ys
-unfolding withEntry lineThen readFrom linesRead byteSum tokenSum
+unfolding tokenSum
 tokenSum-append [] ys = omega arith
 tokenSum-append (e ∷ xs) ys = omega (arith, tokenSum-append xs ys)

@@ -35,7 +35,7 @@ lineRecords-append p k (e ∷ xs) ys =
     ∙ sym (append-assoc (lineRecord p k (e .before)) (lineRecords (p + e .size) (k + length (e .tokens)) xs) _)
 
 pub length-lineRecords : (p k : ℕ) (es : List Entry) → length (lineRecords p k es) ≡ lineSize * length es
-unfolding lineRecord lineRecords tokenWords tokenRecords byteSum tokenSum
+unfolding lineRecord lineRecords
 length-lineRecords p k [] = refl
 length-lineRecords p k (e ∷ es) =
     length-append (lineRecord p k (e .before)) _ ∙ omega (arith, length-lineRecords (p + e .size) (k + length (e .tokens)) es, length-stateWords (e .before))
@@ -57,7 +57,7 @@ lineRecords-take p k j es h =
 -- line record i, that of the end included
 pub record-at : (es : List Entry) (end : State) (i : ℕ) → i ≤ length es
     → take lineSize (drop (lineSize * i) (lineRecords 0 0 (withEnd es end))) ≡ lineRecord (byteSum (take i es)) (tokenSum (take i es)) (stateAt es end i)
-unfolding lineRecord lineRecords tokenWords tokenRecords byteSum tokenSum
+unfolding lineRecord lineRecords
 record-at es end i h =
     let n : length (withEnd es end) ≡ suc (length es) = omega (arith, length-append es (endEntry end ∷ [])) in
     let t : take i (withEnd es end) ≡ take i es = take-append-le i es (endEntry end ∷ []) h in
@@ -86,7 +86,7 @@ tokenRecords-append p l (e ∷ xs) ys =
     ∙ sym (append-assoc (tokenWords p l (e .tokens)) (tokenRecords (p + e .size) (suc l) xs) _)
 
 pub length-tokenRecords : (p l : ℕ) (es : List Entry) → length (tokenRecords p l es) ≡ tokenSize * tokenSum es
-unfolding lineRecord lineRecords tokenWords tokenRecords byteSum tokenSum
+unfolding tokenRecords tokenSum
 length-tokenRecords p l [] = refl
 length-tokenRecords p l (e ∷ es) =
     length-append (tokenWords p l (e .tokens)) _ ∙ omega (arith, length-tokenWords p l (e .tokens), length-tokenRecords (p + e .size) (suc l) es)
@@ -128,7 +128,7 @@ behind t r h = go (readFrom maxLevels initial (linesOf t)) refl h
 -- their sizes
 pub fresh-sizes : (t : List ℕ) (r : Records) → readLines barge t ≡ recorded r
     → (r .head .n ≡ length t) × (length (r .lines) ≡ lineNeed (r .head .m)) × (length (r .tokens) ≡ tokenNeed (r .head .k))
-unfolding recordsOf byteSum
+unfolding recordsOf
 fresh-sizes t r h =
     let b = behind t r h in
     let es : List Entry = b .entries in

@@ -1,24 +1,29 @@
 -- The panel column of an offset: the scalars before it in its line, plus 1.
 -- Assumes nothing.
-use Prim.Native.Nat.{ℕ, suc}
-use mathlib.Core.Bool.{Bool, true, false, _||_}
+use Prim.Native.Nat.{ℕ, suc, _+_}
+use mathlib.Core.Bool.{Bool, true, false, not}
 use mathlib.Core.List.{List, [], _∷_}
 use mathlib.Core.Option.{Option}
-use lib.Dec.{ltb, eqb}
+use lib.Dec.{eqb}
 use lib.ListN.{length, take}
-use Rattle.rules.specs.Lists.{if_then_else_}
+use Rattle.rules.specs.Lists.{if_then_else_, elem}
 use Rattle.rules.specs.Utf8.{scalarsOf}
 use Rattle.rules.specs.Reading.{countLF}
-use Rattle.rules.specs.Replies.{Refusal, outside, Reply, numbered, accepted, refusedIf, firstOf, unless, isMalformed, longTest, formTest}
+use Rattle.rules.specs.Replies.{Refusal, outside, Reply, numbered, accepted, refusedIf, firstOf, unless, longTest, formTest}
 
 -- the bytes after the last LF
 unfoldable pub lastLine : List ℕ → List ℕ
 lastLine [] = []
 lastLine (b ∷ s) = if eqb (countLF (b ∷ s)) 0 then b ∷ s else lastLine s
 
--- an offset is at a scalar's start, or at the end, if what stands before it is well-formed
+-- where scalars start, the first at p, and where the last one ends
+unfoldable pub startsFrom : (p : ℕ) → List (List ℕ) → List ℕ
+startsFrom p [] = p ∷ []
+startsFrom p (c ∷ cs) = p ∷ startsFrom (p + length c) cs
+
+-- past n, or before n and not at a scalar's start
 unfoldable pub isOutside : List ℕ → (at : ℕ) → Bool
-isOutside t at = ltb (length t) at || isMalformed (take at t)
+isOutside t at = not (elem at (startsFrom 0 (scalarsOf t)))
 
 unfoldable pub panelColumn : List ℕ → (at : ℕ) → ℕ
 panelColumn t at = suc (length (scalarsOf (lastLine (take at t))))
@@ -29,3 +34,8 @@ columnTests t at = longTest t ∷ formTest t ∷ refusedIf (isOutside t at) outs
 
 unfoldable pub columnReply : List ℕ → (at : ℕ) → Reply
 columnReply t at = unless (firstOf (columnTests t at)) numbered (accepted (panelColumn t at ∷ []))
+
+-- opens the definitions above where a proof says `unfolding columnRules`
+unfoldable pub columnRules : Unit {0}
+unfolding lastLine startsFrom isOutside panelColumn columnTests columnReply
+columnRules = tt
