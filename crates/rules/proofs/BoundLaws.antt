@@ -1,22 +1,24 @@
 -- How large what a reading gives can be: tokens, levels, depth, widths, and each word of the records.
 -- Assumes nothing.
-use Prim.Native.Nat.{ℕ, zero, suc, _+_, _-_, _*_, _≤_, _<_, zero-le, suc-le-suc, pred}
+use Prim.Native.Nat.{ℕ, zero, suc, _+_, _-_, _*_, _≤_, _<_, zero-le, suc-le-suc, pred, min, max}
+use Prim.Native.Char.{code}
 use mathlib.Core.Path.{_≡_, refl, sym, _∙_, ap}
-use mathlib.Core.Bool.{Bool, true, false}
+use mathlib.Core.Bool.{Bool, true, false, _&&_, not, false≢true}
 use mathlib.Core.List.{List, [], _∷_, _++_}
 use native.Mathlib.Omega.{arith}
 use lib.Dec.{ltb, eqb}
 use lib.ListN.{length, take, drop, replicate, length-append, length-take, length-replicate}
-use borrow.Author.Tests.{ltb-true}
-use Rattle.rules.specs.Lists.{if_then_else_, bit, run, trimmed, trimEnd, lastD}
+use borrow.Author.Tests.{ltb-true, eqb-true, not-true}
+use Rattle.rules.specs.Lists.{if_then_else_, bit, any, elem, run, trimmed, trimEnd, lastD}
 use Rattle.rules.specs.Kinds.{LParen, RParen, Indent, Dedent, Newline}
-use Rattle.rules.specs.Cut.{Cut, blank, comment, ends, token, fails, cut}
-use Rattle.rules.specs.Line.{State, initial, Token, tokenAt, Cuts, cuts, stops, withToken, cutStep, cutsFrom, isSpace, isTab, indentWidth, isCompared, Levels, levels, unequal, tooDeep, dedents, opened, closed, compared, levelsOf, depthAfter, arrowAfter, LineReply, lineReads, lineHalts, withCuts, withLevels, readLine}
+use Rattle.rules.specs.Tables.{isBlank, classOf}
+use Rattle.rules.specs.Cut.{Cut, blank, comment, ends, token, fails, cutBy, cut}
+use Rattle.rules.specs.Line.{State, initial, Token, tokenAt, Cuts, cuts, stops, withToken, cutStep, cutsFrom, isSpace, isTab, indentWidth, afterBlanks, isBlankLine, isCompared, Levels, levels, unequal, tooDeep, dedents, opened, closed, compared, levelsOf, depthAfter, arrowAfter, LineReply, lineReads, lineHalts, withCuts, withLevels, readLine}
 use Rattle.rules.specs.Reading.{Line, linesOf, content, notLF, Entry, entry, Reading, reads, halts, readFrom, byteSum, tokenSum}
 use Rattle.rules.specs.Replies.{maxBytes, maxLevels, barge}
 use Rattle.rules.specs.Records.{widthWords, lineSize, lineNeed, tokenNeed, packed, stateWords, lineRecord, tokenWords, lineRecords, tokenRecords, endEntry, withEnd, Records, recordsOf, recorded, readLines}
-use Rattle.rules.proofs.ListLaws.{if-by, trimEnd-le}
-use Rattle.rules.proofs.CutLaws.{TokenOk, CutOk, cut-ok}
+use Rattle.rules.proofs.ListLaws.{if-by, and-true, run-true, trimEnd-le}
+use Rattle.rules.proofs.CutLaws.{TokenOk, CutOk, cut-ok, cuts-blank}
 use Rattle.rules.proofs.LineLaws.{total, total-lines, first-some, next-line}
 use Rattle.rules.proofs.ReadingLaws.{Step, step, read-sizes, byteSum-append, tokenSum-append}
 use Rattle.rules.proofs.RecordLaws.{Behind, behind}
@@ -109,26 +111,50 @@ indentWidth-le (b ∷ l) =
     if-by (λ n. n ≤ 4 * suc (length l)) (isSpace b) (λ _. omega (arith, indentWidth-le l))
     (λ _. if-by (λ n. n ≤ 4 * suc (length l)) (isTab b) (λ _. omega (arith, indentWidth-le l)) (λ _. zero-le))
 
--- of the open widths `had` before a line of width w
-pub record LevelsOk (limit w : ℕ) (had : List ℕ) (lead : List Token) (now : List ℕ) : Type 0 where
-  pub count : length lead + length now ≤ length had + 2
+-- an indented line begins with a blank byte, and has another byte unless it is blank
+indented-first : (b : ℕ) (l : List ℕ) → 0 < indentWidth (b ∷ l) → isBlank b ≡ true
+unfolding indentWidth isSpace isTab isBlank elem any
+indented-first b l h = go (isSpace b) refl (isTab b) refl h
+  where
+    go : (x : Bool) → isSpace b ≡ x → (y : Bool) → isTab b ≡ y → 0 < (if x then 1 + indentWidth l else if y then 4 + indentWidth l else 0) → isBlank b ≡ true
+    go true e y f k = rw (eqb-true b (code " ") e)
+    go false e true f k = rw (eqb-true b (code "\t") f)
+    go false e false f k = absurd (omega arith)
+
+indented-two : (l : List ℕ) → isBlankLine l ≡ false → 0 < indentWidth l → 2 ≤ length l
+unfolding indentWidth isBlankLine afterBlanks isBlank run
+indented-two [] e h = absurd (omega arith)
+indented-two (b ∷ []) e h = let r : run isBlank (b ∷ []) ≡ 1 = run-true isBlank b [] (indented-first b [] h) in absurd (false≢true (sym e ∙ rw r))
+indented-two (b ∷ c ∷ l) e h = omega arith
+
+-- of the open widths `had` before a line of n bytes and width w: whether it opens a level
+pub record LevelsOk (limit w n : ℕ) (had : List ℕ) (lead : List Token) (now : List ℕ) : Type 0 where
+  pub opens : ℕ
+  pub opens-le : opens ≤ 1
+  pub wide : opens ≤ w
+  pub long : 2 * opens ≤ n
+  pub count : length lead + length now ≤ length had + 2 * opens
   pub tokens : TokensOk 0 lead
   pub limited : length had ≤ limit → length now ≤ limit
   pub widths : (b : ℕ) → w ≤ b → AllLe b had → AllLe b now
 
-abbrev LevelsHold : (limit w : ℕ) → List ℕ → Levels → Type 0
-LevelsHold limit w had (levels lead now) = LevelsOk limit w had lead now
-LevelsHold limit w had unequal = Unit {0}
-LevelsHold limit w had tooDeep = Unit {0}
+abbrev LevelsHold : (limit w n : ℕ) → List ℕ → Levels → Type 0
+LevelsHold limit w n had (levels lead now) = LevelsOk limit w n had lead now
+LevelsHold limit w n had unequal = Unit {0}
+LevelsHold limit w n had tooDeep = Unit {0}
 
-closed-hold : (limit w : ℕ) (had : List ℕ) → LevelsHold limit w had (closed w had (trimEnd (ltb w) had))
+closed-hold : (limit w n : ℕ) (had : List ℕ) → LevelsHold limit w n had (closed w had (trimEnd (ltb w) had))
 unfolding closed
-closed-hold limit w had =
+closed-hold limit w n had =
     let left : List ℕ = trimEnd (ltb w) had in
     let le : length left ≤ length had = trimEnd-le (ltb w) had in
     let count : length (dedents (length had - length left)) ≡ length had - length left = length-replicate (length had - length left) (tokenAt Dedent 0 0) in
-    if-by (LevelsHold limit w had) (eqb (lastD left 0) w)
+    if-by (LevelsHold limit w n had) (eqb (lastD left 0) w)
     (λ _. record {
+      opens = 0;
+      opens-le = zero-le;
+      wide = zero-le;
+      long = zero-le;
       count = omega arith;
       tokens = dedents-ok 0 (length had - length left);
       limited = λ h. omega arith;
@@ -136,25 +162,49 @@ closed-hold limit w had =
     })
     (λ _. tt)
 
-compared-hold : (limit w : ℕ) (had : List ℕ) → LevelsHold limit w had (compared limit w had)
+compared-hold : (limit w n : ℕ) (had : List ℕ) → (0 < w → 2 ≤ n) → LevelsHold limit w n had (compared limit w had)
 unfolding compared opened
-compared-hold limit w had =
-    if-by (LevelsHold limit w had) (ltb (lastD had 0) w)
-    (λ _. if-by (LevelsHold limit w had) (ltb (length had) limit)
+compared-hold limit w n had two =
+    if-by (LevelsHold limit w n had) (ltb (lastD had 0) w)
+    (λ v. if-by (LevelsHold limit w n had) (ltb (length had) limit)
     (λ x. record {
+      opens = 1;
+      opens-le = omega arith;
+      wide = omega (arith, ltb-true (lastD had 0) w v);
+      long = two (omega (arith, ltb-true (lastD had 0) w v));
       count = omega (arith, length-append had (w ∷ []));
       tokens = (omega arith, omega arith, tt);
       limited = λ h. omega (arith, length-append had (w ∷ []), ltb-true (length had) limit x);
       widths = λ b h k. all-append b had (w ∷ []) k (h, tt);
     })
     (λ _. tt))
-    (λ _. closed-hold limit w had)
+    (λ _. closed-hold limit w n had)
 
-levels-hold : (limit : ℕ) (s : State) (l : List ℕ) → LevelsHold limit (indentWidth l) (s .widths) (levelsOf limit s l)
-unfolding levelsOf
+levels-hold : (limit : ℕ) (s : State) (l : List ℕ) → LevelsHold limit (indentWidth l) (length l) (s .widths) (levelsOf limit s l)
+unfolding levelsOf isCompared
 levels-hold limit s l =
-    if-by (LevelsHold limit (indentWidth l) (s .widths)) (isCompared s l) (λ _. compared-hold limit (indentWidth l) (s .widths))
-    (λ _. record { count = omega arith; tokens = tt; limited = λ h. h; widths = λ b h k. k })
+    if-by (LevelsHold limit (indentWidth l) (length l) (s .widths)) (isCompared s l)
+    (λ c. compared-hold limit (indentWidth l) (length l) (s .widths) (indented-two l (not-true (isBlankLine l) (and-true (not (isBlankLine l)) _ c .0))))
+    (λ _. record { opens = 0; opens-le = zero-le; wide = zero-le; long = zero-le; count = omega arith; tokens = tt; limited = λ h. h; widths = λ b h k. k })
+
+-- the cuts of a line: none is at a leading blank
+blank-cut : (b : ℕ) (l : List ℕ) → isBlank b ≡ true → cut (b ∷ l) ≡ blank
+unfolding cut classOf cutBy
+blank-cut b l h = rw h
+
+cuts-count : (l : List ℕ) (ts : List Token) → cutsFrom 0 0 l ≡ cuts ts → length ts + min 1 (indentWidth l) ≤ length l
+unfolding indentWidth
+cuts-count [] ts e = omega (arith, cuts-ok 0 0 [] ts e .0)
+cuts-count (b ∷ l) ts e = go (indentWidth (b ∷ l)) refl
+  where
+    skipped : 0 < indentWidth (b ∷ l) → length ts ≤ length l
+    skipped h =
+        let c : cutsFrom 0 0 (b ∷ l) ≡ cutsFrom 1 0 (drop 1 (b ∷ l)) = cuts-blank 0 (b ∷ l) (omega arith) (blank-cut b l (indented-first b l h)) in
+        cuts-ok 1 0 l ts (sym c ∙ e) .0
+
+    go : (w : ℕ) → indentWidth (b ∷ l) ≡ w → length ts + min 1 w ≤ suc (length l)
+    go zero q = omega (arith, cuts-ok 0 0 (b ∷ l) ts e .0)
+    go (suc w) q = omega (arith, skipped (omega arith))
 
 -- A line of n bytes, read from s to z.
 
@@ -167,13 +217,13 @@ depth-le d [] = omega arith
 depth-le d (t ∷ ts) = omega (arith, depth-step d (t .kind), depth-le (if eqb (t .kind) LParen then suc d else if eqb (t .kind) RParen then pred d else d) ts)
 
 pub record LineOk (limit : ℕ) (s : State) (n : ℕ) (ts : List Token) (z : State) : Type 0 where
-  pub count : length ts + length (z .widths) ≤ length (s .widths) + n + 3
+  pub count : length ts + length (z .widths) ≤ length (s .widths) + max (n + 1) (2 * n)
   pub tokens : TokensOk n ts
   pub depth : z .depth ≤ s .depth + n
   pub limited : length (s .widths) ≤ limit → length (z .widths) ≤ limit
   pub widths : (b : ℕ) → 4 * n ≤ b → AllLe b (s .widths) → AllLe b (z .widths)
 
-cuts-line : (limit : ℕ) (s : State) (l : List ℕ) (lead : List Token) (now : List ℕ) → LevelsOk limit (indentWidth l) (s .widths) lead now
+cuts-line : (limit : ℕ) (s : State) (l : List ℕ) (lead : List Token) (now : List ℕ) → LevelsOk limit (indentWidth l) (length l) (s .widths) lead now
     → (c : Cuts) → cutsFrom 0 0 l ≡ c → (ts : List Token) (z : State) → withCuts s l lead now c ≡ lineReads ts z → LineOk limit s (length l) ts z
 unfolding withCuts
 cuts-line limit s l lead now o (stops f) e ts z h = let n : _≡_ {A = ℕ} 0 1 = cc in absurd (omega arith)
@@ -182,7 +232,7 @@ cuts-line limit s l lead now o (cuts us) e ts z h =
     let ht : ts ≡ lead ++ (us ++ (tokenAt Newline (length l) 0 ∷ [])) = cc in
     let hz : z ≡ record { depth = depthAfter (s .depth) us; arrow = arrowAfter false us; widths = now } = cc in
     rw (ht, hz) record {
-      count = omega (arith, length-append lead (us ++ (tokenAt Newline (length l) 0 ∷ [])), length-append us (tokenAt Newline (length l) 0 ∷ []), c .0, o .count);
+      count = omega (arith, length-append lead (us ++ (tokenAt Newline (length l) 0 ∷ [])), length-append us (tokenAt Newline (length l) 0 ∷ []), cuts-count l us e, o .count, o .opens-le, o .wide, o .long);
       tokens = tokens-append (length l) lead _ (tokens-le 0 (length l) lead zero-le (o .tokens))
           (tokens-append (length l) us _ (tokens-le (0 + length l) (length l) us (omega arith) (c .1)) (omega arith, omega arith, tt));
       depth = omega (arith, depth-le (s .depth) us, c .0);
@@ -190,7 +240,7 @@ cuts-line limit s l lead now o (cuts us) e ts z h =
       widths = λ b h k. o .widths b (omega (arith, indentWidth-le l)) k;
     }
 
-levels-line : (limit : ℕ) (s : State) (l : List ℕ) (v : Levels) → LevelsHold limit (indentWidth l) (s .widths) v
+levels-line : (limit : ℕ) (s : State) (l : List ℕ) (v : Levels) → LevelsHold limit (indentWidth l) (length l) (s .widths) v
     → (ts : List Token) (z : State) → withLevels s l v ≡ lineReads ts z → LineOk limit s (length l) ts z
 unfolding withLevels
 levels-line limit s l (levels lead now) o ts z h = cuts-line limit s l lead now o (cutsFrom 0 0 l) refl ts z h
@@ -207,19 +257,36 @@ content-le : (l : Line) → length (content l) ≤ length l
 unfolding content
 content-le l = omega (arith, length-take (run notLF l) l)
 
--- the tokens with the levels left open: at most one for each byte and three for each line
-pub count-le : (limit : ℕ) (s : State) (ls : List Line) (es : List Entry) (z : State) → readFrom limit s ls ≡ reads es z
-    → tokenSum es + length (z .widths) ≤ length (s .widths) + total ls + 3 * length ls
+-- lines of which each has a byte
+abbrev pub Nonempty : List Line → Type 0
+Nonempty [] = Unit {0}
+Nonempty (l ∷ ls) = (0 < length l) × Nonempty ls
+
+pub lines-nonempty : (t : List ℕ) (ls : List Line) → linesOf t ≡ ls → Nonempty ls
+lines-nonempty t [] h = tt
+lines-nonempty t (l ∷ ls) h = (first-some t l ls h, lines-nonempty (drop (length l) t) ls (next-line t l ls h))
+
+nonempty-front : (xs ys : List Line) → Nonempty (xs ++ ys) → Nonempty xs
+nonempty-front [] ys h = tt
+nonempty-front (l ∷ xs) ys h = (h .0, nonempty-front xs ys (h .1))
+
+pub nonempty-le : (ls : List Line) → Nonempty ls → length ls ≤ total ls
+nonempty-le [] h = zero-le
+nonempty-le (l ∷ ls) h = omega (arith, h .0, nonempty-le ls (h .1))
+
+-- the tokens with the levels left open: at most two for each byte
+pub count-le : (limit : ℕ) (s : State) (ls : List Line) (es : List Entry) (z : State) → Nonempty ls → readFrom limit s ls ≡ reads es z
+    → tokenSum es + length (z .widths) ≤ length (s .widths) + 2 * total ls
 unfolding readFrom tokenSum
-count-le limit s [] es z h =
+count-le limit s [] es z n h =
     let c : es ≡ [] = cc in
     let d : s ≡ z = cc in
     rw (c, d) (omega arith)
-count-le limit s (l ∷ ls) es z h =
+count-le limit s (l ∷ ls) es z n h =
     let st = step limit s l (readLine limit s (content l)) (λ y. readFrom limit y ls) es z h in
     let o = line-ok limit s (content l) (st .ts) (st .mid) (st .line-is) in
-    let ih = count-le limit (st .mid) ls (st .rest) z (st .rest-is) in
-    rw (st .entries-are) (omega (arith, o .count, content-le l, ih))
+    let ih = count-le limit (st .mid) ls (st .rest) z (n .1) (st .rest-is) in
+    rw (st .entries-are) (omega (arith, o .count, content-le l, ih, n .0))
 
 pub record StateOk (limit b : ℕ) (s : State) : Type 0 where
   pub limited : length (s .widths) ≤ limit
@@ -281,11 +348,6 @@ all-token-words b p l (e ∷ es) h o hp hl =
 
 -- A text within the limit that reads.
 
--- each line has a byte
-pub lines-le : (t : List ℕ) (ls : List Line) → linesOf t ≡ ls → length ls ≤ total ls
-lines-le t [] h = zero-le
-lines-le t (l ∷ ls) h = omega (arith, first-some t l ls h, lines-le (drop (length l) t) ls (next-line t l ls h))
-
 -- what every word is bounded by, far below 2 ^ 32
 abbrev pub wordMax : ℕ
 wordMax = 4 * maxBytes
@@ -293,9 +355,9 @@ wordMax = 4 * maxBytes
 pub record Small (r : Records) : Type 0 where
   pub n-le : r .head .n ≤ maxBytes
   pub m-le : r .head .m ≤ r .head .n
-  pub k-le : r .head .k ≤ 4 * r .head .n
+  pub k-le : r .head .k ≤ 2 * r .head .n
   pub line-need : lineNeed (r .head .m) ≤ 22_020_117
-  pub token-need : tokenNeed (r .head .k) ≤ 20_971_520
+  pub token-need : tokenNeed (r .head .k) ≤ 10_485_760
   pub lines : AllLe wordMax (r .lines)
   pub tokens : AllLe wordMax (r .tokens)
 
@@ -314,8 +376,9 @@ fresh-small t r ht h = rw (b .records-are) (go (b .entries) (b .end) (b .reads-a
     go es z e =
         let n : total (linesOf t) ≡ length t = total-lines t in
         let s = read-sizes maxLevels initial (linesOf t) es z e in
-        let m : length (linesOf t) ≤ total (linesOf t) = lines-le t (linesOf t) refl in
-        let c : tokenSum es + length (z .widths) ≤ 0 + total (linesOf t) + 3 * length (linesOf t) = count-le maxLevels initial (linesOf t) es z e in
+        let ne : Nonempty (linesOf t) = lines-nonempty t (linesOf t) refl in
+        let m : length (linesOf t) ≤ total (linesOf t) = nonempty-le (linesOf t) ne in
+        let c : tokenSum es + length (z .widths) ≤ 0 + 2 * total (linesOf t) = count-le maxLevels initial (linesOf t) es z ne e in
         let w : length (dedents (length (z .widths))) ≡ length (z .widths) = length-replicate (length (z .widths)) (tokenAt Dedent 0 0) in
         let k : tokenSum (withEnd es z) ≡ tokenSum es + length (z .widths) = omega (arith, tokenSum-append es (endEntry z ∷ [])) in
         let d : byteSum (withEnd es z) ≡ byteSum es = omega (arith, byteSum-append es (endEntry z ∷ [])) in
@@ -336,23 +399,15 @@ fresh-small t r ht h = rw (b .records-are) (go (b .entries) (b .end) (b .reads-a
 -- A reading that has come to byte p of a text within the limit: what a loop has so far is small.
 pub record SmallAt (p : ℕ) (es : List Entry) (z : State) : Type 0 where
   pub lines : length es ≤ p
-  pub tokens : tokenSum es + length (z .widths) ≤ 4 * p
+  pub tokens : tokenSum es + length (z .widths) ≤ 2 * p
   pub entries : EntriesOk maxLevels wordMax es
   pub state : StateOk maxLevels wordMax z
 
 pub read-small : (t : List ℕ) (p : ℕ) (es : List Entry) (z : State) → length t ≤ maxBytes → p ≤ length t → ReadTo maxLevels initial t p es z → SmallAt p es z
 read-small t p es z ht hp r =
     let n = read-sizes maxLevels initial (r .lines) es z (r .reads-are) in
-    let c : tokenSum es + length (z .widths) ≤ 0 + total (r .lines) + 3 * length (r .lines) = count-le maxLevels initial (r .lines) es z (r .reads-are) in
-    let m : length (r .lines) ≤ total (r .lines) = part-le (linesOf t) (r .lines) (linesOf (drop p t)) (r .split) t refl in
+    let ne : Nonempty (r .lines) = nonempty-front (r .lines) (linesOf (drop p t)) (lines-nonempty t (r .lines ++ linesOf (drop p t)) (r .split)) in
+    let c : tokenSum es + length (z .widths) ≤ 0 + 2 * total (r .lines) = count-le maxLevels initial (r .lines) es z ne (r .reads-are) in
+    let m : length (r .lines) ≤ total (r .lines) = nonempty-le (r .lines) ne in
     let o = entries-ok maxLevels wordMax initial (r .lines) es z (r .reads-are) zero-le tt (omega (arith, n .1, r .bytes)) in
     record { lines = omega (arith, n .0, n .1, r .bytes); tokens = omega (arith, n .1, r .bytes); entries = o .0; state = o .1 }
-  where
-    -- the first lines of a text, each with a byte
-    part-le : (ls xs ys : List Line) → ls ≡ xs ++ ys → (t : List ℕ) → linesOf t ≡ ls → length xs ≤ total xs
-    part-le ls [] ys e t h = zero-le
-    part-le [] (x ∷ xs) ys e t h = let q : _≡_ {A = ℕ} 0 1 = cc in absurd (omega arith)
-    part-le (l ∷ ls) (x ∷ xs) ys e t h =
-        let a : l ≡ x = cc in
-        let b : ls ≡ xs ++ ys = cc in
-        omega (arith, first-some t l ls h, ap length a, part-le ls xs ys b (drop (length l) t) (next-line t l ls h))

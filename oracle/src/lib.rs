@@ -1,0 +1,12 @@
+//! The Rust lexer, unchanged, and an executable reading of document 01 on top of it.
+
+extern crate alloc;
+
+pub mod examples;
+pub mod format;
+pub mod generate;
+pub mod original;
+pub mod page;
+pub mod reading;
+
+use original::types;
