@@ -6,9 +6,9 @@ use mathlib.Core.Bool.{Bool, true, false, _&&_, false≢true}
 use mathlib.Core.List.{List, [], _∷_}
 use mathlib.Core.Option.{Option, none, some}
 use native.Mathlib.Omega.{arith}
-use native.Mathlib.Decide.{ℕ-discrete}
-use lib.Dec.{ltb, eqb}
+use lib.Dec.{T, ltb, eqb}
 use borrow.Author.Tests.{eqb-true}
+use Rattle.laws.proofs.Below.{at}
 use Rattle.rules.specs.Lists.{if_then_else_}
 use Rattle.rules.proofs.ListLaws.{and-left, and-right}
 use Rattle.rules.specs.Utf8.{Range, _to_, continuation, Row, table, following}
@@ -59,27 +59,14 @@ row-eq none (some ss) h = absurd (false≢true h)
 row-eq (some rs) none h = absurd (false≢true h)
 row-eq (some rs) (some ss) h = ap {B = Option (List Range)} some (ranges-eq rs ss h)
 
--- a test passes at every number below n
-below : (ℕ → Bool) → ℕ → Bool
-below f zero = true
-below f (suc n) = f n && below f n
-
-below-at : (f : ℕ → Bool) (n k : ℕ) → below f n ≡ true → k < n → f k ≡ true
-unfolding below
-below-at f zero k h l = absurd (omega arith)
-below-at f (suc n) k h l = go (ℕ-discrete k n) (λ m. below-at f n k (and-right (f n) (below f n) h) m)
-  where
-    go : Dec (k ≡ n) → (k < n → f k ≡ true) → f k ≡ true
-    go (yes e) r = ap f e ∙ and-left (f n) (below f n) h
-    go (no d) r = r (omega arith)
+T-true : (b : Bool) → T b → b ≡ true
+T-true true t = refl
+T-true false t = absurd t
 
 agree : ℕ → Bool
 agree b = sameRow (following table b) (byFirst b)
 
-all-agree : below agree 256 ≡ true
-unfolding below agree sameRow sameRanges byFirst second following table
-all-agree = refl
-
+-- by one test over the 256 bytes
 pub following-eq : (b : ℕ) → b < 256 → following table b ≡ byFirst b
-unfolding agree
-following-eq b h = row-eq (following table b) (byFirst b) (below-at agree 256 b all-agree h)
+unfolding agree sameRow sameRanges byFirst second following table
+following-eq b h = row-eq (following table b) (byFirst b) (T-true (agree b) (at agree 256 tt b h))
