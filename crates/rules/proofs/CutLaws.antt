@@ -1,4 +1,5 @@
--- Laws of cuts: a token has a kind below Indent and at least one byte, and stays in its line; the cuts of a line, as a loop meets them.
+-- Laws of cuts: a token has a kind below Indent and at least one byte; a token and a failure's range stay in the line; the cuts of a line, as a
+-- loop meets them.
 -- Assumes nothing.
 use Prim.Native.Nat.{ℕ, zero, suc, _+_, _-_, _≤_, _<_, zero-le, suc-le-suc, pred}
 use Prim.Native.Char.{code}
@@ -11,11 +12,13 @@ use lib.ListN.{length, getD, take, drop, length-drop, drop-of-length-le}
 use lib.Seq.{drop-cons, drop-drop}
 use borrow.Author.Tests.{ltb-true, lt-ltb, le-ltb}
 use Rattle.rules.specs.Lists.{if_then_else_, within, ascii, every, elem, same, run, begins, trimEnd}
+use Rattle.rules.specs.Utf8.{scalarSize}
 use Rattle.rules.specs.Kinds.{kindNames, placeIn, kindNamed, Ident, Num, ByteLit, Str, Indent}
 use Rattle.rules.specs.Tables.{isBlank, isCR, isDigit, isLetter, isHexDigit, isSign, classOf, Spelling, keywords, signs, wordKind, tableRules}
 use Rattle.rules.specs.Failure.{Failure, failure, unterminatedString}
 use Rattle.rules.specs.Cut.{Cut, blank, comment, ends, token, fails, failing, finding, inDecimal, inHex, inWord, inString, fractionSize, decimalSize, digitsSize, suffixes, suffixSize, scanNumber, numberCut, stringEnd, stringCut, closingCut, lowDigitCut, highDigitCut, escapeCut, contentCut, byteCut, wordCut, letterCut, signCut, cutBy, cut}
 use Rattle.rules.specs.Line.{Token, tokenAt, movedBy, Cuts, cuts, stops, withToken, cutStep, cutsFrom}
+use Rattle.rules.proofs.Utf8Laws.{size-le}
 use Rattle.rules.proofs.ListLaws.{if-by, or-by, or-left, and-left, and-true, run-some, run-le, begins-le, trimEnd-le, trimEnd-drop}
 
 -- A cut by the class of its first byte.
@@ -52,7 +55,7 @@ CutOk s blank = Unit {0}
 CutOk s comment = Unit {0}
 CutOk s ends = Unit {0}
 CutOk s (token k n) = TokenOk s k n
-CutOk s (fails f) = Unit {0}
+CutOk s (fails f) = f .at + f .size ≤ length s
 
 -- Numbers.
 
@@ -102,42 +105,52 @@ string-ok : (s : List ℕ) → CutOk s (stringCut s)
 unfolding stringCut
 string-ok s =
     if-by (CutOk s) (ltb (stringEnd s) (length s))
-    (λ h. record { kind-lt = omega arith; some-bytes = omega arith; in-line = ltb-true (stringEnd s) (length s) h }) (λ _. tt)
+    (λ h. record { kind-lt = omega arith; some-bytes = omega arith; in-line = ltb-true (stringEnd s) (length s) h }) (λ _. omega (arith, trimEnd-le isCR s))
+
+-- a scalar's bytes are in the text
+scalar-le : (s : List ℕ) → scalarSize s ≤ length s
+unfolding scalarSize
+scalar-le [] = zero-le
+scalar-le (b ∷ s) = go (scalarSize (b ∷ s)) refl
+  where
+    go : (n : ℕ) → scalarSize (b ∷ s) ≡ n → n ≤ suc (length s)
+    go zero e = zero-le
+    go (suc n) e = suc-le-suc (size-le b s n e)
 
 -- of a literal in s, what is left from offset k on
 module _ (s : List ℕ) where
   closing-ok : (k : ℕ) (r : List ℕ) → k + length r ≤ length s → CutOk s (closingCut k r)
   unfolding closingCut
-  closing-ok k [] h = tt
+  closing-ok k [] h = omega arith
   closing-ok k (c ∷ r) h =
-      if-by (CutOk s) (eqb c (code "'")) (λ _. record { kind-lt = omega arith; some-bytes = omega arith; in-line = omega arith }) (λ _. tt)
+      if-by (CutOk s) (eqb c (code "'")) (λ _. record { kind-lt = omega arith; some-bytes = omega arith; in-line = omega arith }) (λ _. omega (arith, scalar-le (c ∷ r)))
 
   low-ok : (r : List ℕ) → 5 + length r ≤ length s → CutOk s (lowDigitCut r)
   unfolding lowDigitCut
-  low-ok [] h = tt
-  low-ok (c ∷ r) h = if-by (CutOk s) (isHexDigit c) (λ _. closing-ok 6 r (omega arith)) (λ _. tt)
+  low-ok [] h = omega arith
+  low-ok (c ∷ r) h = if-by (CutOk s) (isHexDigit c) (λ _. closing-ok 6 r (omega arith)) (λ _. omega (arith, scalar-le (c ∷ r)))
 
   high-ok : (r : List ℕ) → 4 + length r ≤ length s → CutOk s (highDigitCut r)
   unfolding highDigitCut
-  high-ok [] h = tt
+  high-ok [] h = omega arith
   high-ok (c ∷ r) h =
-      if-by (CutOk s) (within (code "0") (code "7") c) (λ _. low-ok r (omega arith)) (λ _. if-by (CutOk s) (isHexDigit c) (λ _. tt) (λ _. tt))
+      if-by (CutOk s) (within (code "0") (code "7") c) (λ _. low-ok r (omega arith)) (λ _. if-by (CutOk s) (isHexDigit c) (λ _. omega (arith, scalar-le (c ∷ r))) (λ _. omega (arith, scalar-le (c ∷ r))))
 
   escape-ok : (r : List ℕ) → 3 + length r ≤ length s → CutOk s (escapeCut r)
   unfolding escapeCut
-  escape-ok [] h = tt
+  escape-ok [] h = omega arith
   escape-ok (c ∷ r) h =
       if-by (CutOk s) (elem c (ascii "0tnr'\\\"")) (λ _. closing-ok 4 r (omega arith))
-      (λ _. if-by (CutOk s) (eqb c (code "x")) (λ _. high-ok r (omega arith)) (λ _. tt))
+      (λ _. if-by (CutOk s) (eqb c (code "x")) (λ _. high-ok r (omega arith)) (λ _. omega (arith, scalar-le (c ∷ r))))
 
   content-ok : (r : List ℕ) → 2 + length r ≤ length s → CutOk s (contentCut r)
   unfolding contentCut
-  content-ok [] h = tt
+  content-ok [] h = omega arith
   content-ok (c ∷ r) h =
-      if-by (CutOk s) (eqb c (code "'")) (λ _. tt)
+      if-by (CutOk s) (eqb c (code "'")) (λ _. omega (arith, scalar-le (c ∷ r)))
       (λ _. if-by (CutOk s) (eqb c (code "\\")) (λ _. escape-ok r (omega arith))
       (λ _. if-by (CutOk s) (within 0x20 0x7E c) (λ _. closing-ok 3 r (omega arith))
-      (λ _. if-by (CutOk s) (ltb c 0x80) (λ _. tt) (λ _. tt))))
+      (λ _. if-by (CutOk s) (ltb c 0x80) (λ _. omega (arith, scalar-le (c ∷ r))) (λ _. omega (arith, scalar-le (c ∷ r))))))
 
 byte-ok : (s : List ℕ) → 2 ≤ length s → CutOk s (byteCut s)
 unfolding byteCut
@@ -174,15 +187,15 @@ letter-ok b s h =
       in-line = run-le inWord (b ∷ s);
     })
 
-sign-ok : (ks : List Spelling) (s : List ℕ) → every spellingOk ks ≡ true → CutOk s (signCut ks s)
+sign-ok : (ks : List Spelling) (s : List ℕ) → 0 < length s → every spellingOk ks ≡ true → CutOk s (signCut ks s)
 unfolding signCut every
-sign-ok [] s h = tt
-sign-ok (k ∷ ks) s h =
+sign-ok [] s n h = n
+sign-ok (k ∷ ks) s n h =
     let a = and-true (spellingOk k) (every spellingOk ks) h in
     let b = and-true (ltb (k .kind) Indent) (ltb 0 (length (k .bytes))) (a .0) in
     if-by (CutOk s) (begins (k .bytes) s)
     (λ e. record { kind-lt = ltb-true _ _ (b .0); some-bytes = ltb-true _ _ (b .1); in-line = begins-le (k .bytes) s e })
-    (λ _. sign-ok ks s (a .1))
+    (λ _. sign-ok ks s n (a .1))
 
 pub cut-ok : (s : List ℕ) → CutOk s (cut s)
 unfolding cut
@@ -194,8 +207,8 @@ cut-ok (b ∷ s) =
       letters = letter-ok b s;
       digits = number-ok b s;
       strings = λ _. string-ok (b ∷ s);
-      others = tt;
-      sign = λ _ _. sign-ok signs (b ∷ s) signs-ok;
+      others = omega (arith, scalar-le (b ∷ s));
+      sign = λ _ _. sign-ok signs (b ∷ s) (omega arith) signs-ok;
     }
 
 -- The cuts of a line from an offset on.
