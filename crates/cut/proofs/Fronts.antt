@@ -1,0 +1,54 @@
+-- What a line begins with at an index, one byte at a time.
+-- Assumes nothing.
+use Prim.Native.Nat.{ℕ, zero, suc, _+_, _-_, _≤_, _<_}
+use mathlib.Core.Path.{_≡_, refl, sym, ap, _∙_}
+use mathlib.Core.Bool.{Bool, true, false, _&&_}
+use mathlib.Core.List.{List, [], _∷_}
+use native.Mathlib.Omega.{arith}
+use native.Mathlib.Numerals.{add-one}
+use lib.Dec.{eqb}
+use lib.ListN.{length, getD, take, drop, drop-of-length-le}
+use lib.Seq.{drop-cons}
+use borrow.Author.Tests.{eq-eqb, ne-eqb}
+use Rattle.rules.specs.Lists.{begins, trimEnd}
+use Rattle.rules.specs.Tables.{isCR}
+use Rattle.rules.proofs.ListLaws.{begins-le, trim-pass, trim-stop}
+
+module _ (p s : List ℕ) (at j : ℕ) (hp : j < length p) (hs : at + j < length s) where
+  step : begins (drop j p) (drop (at + j) s) ≡ (eqb (getD p j 0) (getD s (at + j) 0) && begins (drop (j + 1) p) (drop (at + (j + 1)) s))
+  unfolding begins
+  step =
+      let e : at + (j + 1) ≡ suc (at + j) = omega arith in
+      rw (drop-cons p j 0 hp, drop-cons s (at + j) 0 hs, e, add-one)
+
+  -- a byte that agrees, and one that does not
+  pub begins-more : getD s (at + j) 0 ≡ getD p j 0 → begins (drop j p) (drop (at + j) s) ≡ begins (drop (j + 1) p) (drop (at + (j + 1)) s)
+  begins-more e = step ∙ rw (eq-eqb (getD p j 0) (getD s (at + j) 0) (sym e))
+
+  pub begins-other : (getD s (at + j) 0 ≡ getD p j 0 → ⊥) → begins (drop j p) (drop (at + j) s) ≡ false
+  begins-other h = step ∙ rw (ne-eqb (getD p j 0) (getD s (at + j) 0) (λ e. h (sym e)))
+
+pub begins-all : (p s : List ℕ) (j : ℕ) → length p ≤ j → begins (drop j p) s ≡ true
+unfolding begins
+begins-all p s j h = rw (drop-of-length-le p h)
+
+-- a text that is too short
+pub begins-short : (p s : List ℕ) → length s < length p → begins p s ≡ false
+begins-short p s h = go (begins p s) refl
+  where
+    go : (b : Bool) → begins p s ≡ b → b ≡ false
+    go true e = absurd (omega (arith, begins-le p s e))
+    go false e = refl
+
+-- Trailing CRs, one byte at a time from the end.
+module _ (l : List ℕ) (n : ℕ) (some : 0 < n) (inside : n ≤ length l) where
+  last : n - 1 + 1 ≡ n
+  last = omega arith
+
+  pub cr-past : getD l (n - 1) 0 ≡ 13 → trimEnd isCR (take n l) ≡ trimEnd isCR (take (n - 1) l)
+  unfolding isCR
+  cr-past e = ap (λ (k : ℕ). trimEnd isCR (take k l)) (sym last) ∙ trim-pass isCR l (n - 1) (omega arith) (eq-eqb (getD l (n - 1) 0) 13 e)
+
+  pub cr-stop : (getD l (n - 1) 0 ≡ 13 → ⊥) → trimEnd isCR (take n l) ≡ take n l
+  unfolding isCR
+  cr-stop h = rw last at (trim-stop isCR l (n - 1) (omega arith) (ne-eqb (getD l (n - 1) 0) 13 h))

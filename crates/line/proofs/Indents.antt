@@ -1,0 +1,92 @@
+-- The indent width at an index, one byte at a time; the last of some widths; blank lines.
+-- Assumes nothing.
+use Prim.Native.Nat.{ℕ, zero, suc, _+_, _-_, _≤_, _<_}
+use mathlib.Core.Path.{_≡_, refl, sym, ap, _∙_}
+use mathlib.Core.Bool.{Bool, true, false, _||_}
+use mathlib.Core.List.{List, [], _∷_, _++_}
+use native.Mathlib.Omega.{arith}
+use native.Mathlib.Numerals.{add-one}
+use lib.Dec.{eqb}
+use lib.ListN.{length, getD, take, drop, drop-of-length-le, length-drop}
+use lib.Seq.{drop-cons, take-suc}
+use borrow.Author.Tests.{eq-eqb, ne-eqb}
+use Rattle.rules.specs.Lists.{if_then_else_, ascii, begins, run, trimEnd, lastD}
+use Rattle.rules.specs.Tables.{isBlank}
+use Rattle.rules.specs.Line.{isSpace, isTab, indentWidth, indentSize, afterBlanks, isBlankLine}
+use Rattle.rules.proofs.ListLaws.{run-le, trim-pass, trim-stop}
+
+-- a space or a tab
+abbrev pub indents : ℕ → Bool
+indents b = isSpace b || isTab b
+
+pub indentSize-run : (l : List ℕ) → indentSize l ≡ run indents l
+unfolding indentSize
+indentSize-run l = refl
+
+module _ (l : List ℕ) (i : ℕ) (h : i < length l) where
+  step : indentWidth (drop i l) ≡ (if isSpace (getD l i 0) then 1 + indentWidth (drop (i + 1) l) else if isTab (getD l i 0) then 4 + indentWidth (drop (i + 1) l) else 0)
+  unfolding indentWidth
+  step = rw (drop-cons l i 0 h, add-one)
+
+  pub width-space : getD l i 0 ≡ 32 → indentWidth (drop i l) ≡ 1 + indentWidth (drop (i + 1) l)
+  unfolding isSpace
+  width-space e = step ∙ rw (eq-eqb (getD l i 0) 32 e)
+
+  pub width-tab : (getD l i 0 ≡ 32 → ⊥) → getD l i 0 ≡ 9 → indentWidth (drop i l) ≡ 4 + indentWidth (drop (i + 1) l)
+  unfolding isSpace isTab
+  width-tab n e = step ∙ rw (ne-eqb (getD l i 0) 32 n, eq-eqb (getD l i 0) 9 e)
+
+  pub width-other : (getD l i 0 ≡ 32 → ⊥) → (getD l i 0 ≡ 9 → ⊥) → indentWidth (drop i l) ≡ 0
+  unfolding isSpace isTab
+  width-other n m = step ∙ rw (ne-eqb (getD l i 0) 32 n, ne-eqb (getD l i 0) 9 m)
+
+pub width-end : (l : List ℕ) (i : ℕ) → length l ≤ i → indentWidth (drop i l) ≡ 0
+unfolding indentWidth
+width-end l i h = rw (drop-of-length-le l h)
+
+-- the last of n widths
+lastD-snoc : (xs : List ℕ) (x d : ℕ) → lastD (xs ++ (x ∷ [])) d ≡ x
+unfolding lastD
+lastD-snoc [] x d = refl
+lastD-snoc (y ∷ xs) x d = lastD-snoc xs x y
+
+pub lastD-take : (ws : List ℕ) (n d : ℕ) → 0 < n → n ≤ length ws → lastD (take n ws) d ≡ getD ws (n - 1) 0
+lastD-take ws n d h k =
+    let e : n ≡ suc (n - 1) = omega arith in
+    ap (λ (m : ℕ). lastD (take m ws) d) e ∙ ap (λ (xs : List ℕ). lastD xs d) (take-suc ws (n - 1) 0 (omega arith))
+    ∙ lastD-snoc (take (n - 1) ws) (getD ws (n - 1) 0) d
+
+-- widths popped from the end
+module _ (f : ℕ → Bool) (ws : List ℕ) (n : ℕ) (some : 0 < n) (inside : n ≤ length ws) where
+  last : n - 1 + 1 ≡ n
+  last = omega arith
+
+  pub pop-past : f (getD ws (n - 1) 0) ≡ true → trimEnd f (take n ws) ≡ trimEnd f (take (n - 1) ws)
+  pop-past e = ap (λ (k : ℕ). trimEnd f (take k ws)) (sym last) ∙ trim-pass f ws (n - 1) (omega arith) e
+
+  pub pop-stop : f (getD ws (n - 1) 0) ≡ false → trimEnd f (take n ws) ≡ take n ws
+  pop-stop e = rw last at (trim-stop f ws (n - 1) (omega arith) e)
+
+-- A blank line, by what stands after its blanks.
+module _ (l : List ℕ) (e : ℕ) (is : e ≡ run isBlank l) where
+  pub blanks-le : e ≤ length l
+  blanks-le = omega (arith, run-le isBlank l)
+
+  rest : afterBlanks l ≡ drop e l
+  unfolding afterBlanks
+  rest = ap (λ (n : ℕ). drop n l) (sym is)
+
+  pub blank-empty : e ≡ length l → isBlankLine l ≡ true
+  unfolding isBlankLine
+  blank-empty h = rw (rest, drop-of-length-le l {i = e} (omega arith))
+
+  some-rest : (e ≡ length l → ⊥) → eqb (length (drop e l)) 0 ≡ false
+  some-rest h = ne-eqb (length (drop e l)) 0 (λ z. h (omega (arith, length-drop e l, blanks-le)))
+
+  pub blank-hash : (e ≡ length l → ⊥) → begins (ascii "#") (drop e l) ≡ true → isBlankLine l ≡ true
+  unfolding isBlankLine
+  blank-hash n h = rw (rest, some-rest n, h)
+
+  pub blank-slashes : (e ≡ length l → ⊥) → begins (ascii "#") (drop e l) ≡ false → isBlankLine l ≡ begins (ascii "//") (drop e l)
+  unfolding isBlankLine
+  blank-slashes n h = rw (rest, some-rest n, h)

@@ -1,0 +1,4 @@
+pub mod Indents
+pub mod Levels
+pub mod Dedents
+pub mod Progress

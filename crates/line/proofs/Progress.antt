@@ -1,0 +1,155 @@
+-- The cuts of a line as a loop makes them: what was cut so far, and what is left.
+-- Assumes nothing.
+use Prim.Native.Nat.{ℕ, zero, suc, _+_, _-_, _*_, _≤_, _<_, pred}
+use mathlib.Core.Path.{_≡_, refl, sym, ap, _∙_}
+use mathlib.Core.Bool.{Bool, true, false}
+use mathlib.Core.List.{List, [], _∷_, _++_, append-assoc, append-nil}
+use native.Mathlib.Omega.{arith}
+use native.Mathlib.Numerals.{add-one}
+use lib.Dec.{eqb}
+use lib.ListN.{length, drop, length-append, length-drop}
+use Rattle.rules.specs.Lists.{if_then_else_}
+use Rattle.rules.specs.Kinds.{Implies, LParen, RParen}
+use Rattle.rules.specs.Failure.{Failure}
+use Rattle.rules.specs.Cut.{Cut, blank, comment, token, fails, cut}
+use Rattle.rules.specs.Line.{Token, tokenAt, Cuts, cuts, stops, withToken, movedBy, cutsFrom, depthAfter, arrowAfter}
+use Rattle.rules.specs.Records.{tokenWords}
+use Rattle.rules.proofs.CutLaws.{TokenOk, CutOk, cut-ok, cuts-end, cuts-blank, cuts-comment, cuts-token, cuts-fails}
+use Rattle.rules.proofs.RecordLaws.{length-tokenWords}
+use Rattle.cut.specs.Cuts.{plainKind}
+use Rattle.cut.proofs.Plain.{Named, plain-eqb}
+use Rattle.laws.specs.Puts.{putIf}
+use Rattle.laws.proofs.Puts.{length-putIf, putIf-append, putIf-none, putIf-by}
+
+-- tokens in front of cuts
+unfoldable pub withTokens : List Token → Cuts → Cuts
+withTokens ts (cuts us) = cuts (ts ++ us)
+withTokens ts (stops f) = stops f
+
+withTokens-none : (x : Cuts) → withTokens [] x ≡ x
+unfolding withTokens
+withTokens-none (cuts us) = refl
+withTokens-none (stops f) = refl
+
+withTokens-more : (ts : List Token) (t : Token) (x : Cuts) → withTokens ts (withToken t x) ≡ withTokens (ts ++ (t ∷ [])) x
+unfolding withTokens withToken
+withTokens-more ts t (cuts us) = ap cuts (sym (append-assoc ts (t ∷ []) us))
+withTokens-more ts t (stops f) = refl
+
+-- one more token at the end
+depth-snoc : (d : ℕ) (ts : List Token) (t : Token)
+    → depthAfter d (ts ++ (t ∷ [])) ≡ (if eqb (t .kind) LParen then suc (depthAfter d ts) else if eqb (t .kind) RParen then pred (depthAfter d ts) else depthAfter d ts)
+unfolding depthAfter
+depth-snoc d [] t = refl
+depth-snoc d (x ∷ ts) t = depth-snoc _ ts t
+
+arrow-snoc : (a : Bool) (ts : List Token) (t : Token) → arrowAfter a (ts ++ (t ∷ [])) ≡ eqb (t .kind) Implies
+unfolding arrowAfter
+arrow-snoc a [] t = refl
+arrow-snoc a (x ∷ ts) t = arrow-snoc _ ts t
+
+words-snoc : (p l : ℕ) (ts : List Token) (t : Token) → tokenWords p l (ts ++ (t ∷ [])) ≡ tokenWords p l ts ++ (t .kind ∷ (p + t .at) ∷ t .size ∷ l ∷ suc (t .at) ∷ [])
+unfolding tokenWords
+words-snoc p l [] t = refl
+words-snoc p l (x ∷ ts) t = rw (words-snoc p l ts t)
+
+-- the depth that a kind leaves
+unfoldable pub depthBy : (depth kind : ℕ) → ℕ
+depthBy d k = if eqb k LParen then suc d else if eqb k RParen then pred d else d
+
+-- the line, the depth before it, the place of its tokens, and whether they are written
+module _ (l : List ℕ) (d₀ p number k : ℕ) (write : Bool) (tokens₀ : List ℕ) where
+  pub record Progress (tokens : List ℕ) (at n depth : ℕ) (arrow : Bool) : Type 0 where
+    pub done : List Token
+    pub inside : at ≤ length l
+    pub rest : cutsFrom 0 0 l ≡ withTokens done (cutsFrom at 0 (drop at l))
+    pub count : length done ≡ n
+    pub few : n ≤ at
+    pub depth-is : depthAfter d₀ done ≡ depth
+    pub arrow-is : arrowAfter false done ≡ arrow
+    pub words : tokens ≡ putIf write tokens₀ (5 * k) (tokenWords p number done)
+
+  pub start : Progress tokens₀ 0 0 d₀ false
+  unfolding depthAfter arrowAfter tokenWords
+  start =
+      record {
+        done = [];
+        inside = omega arith;
+        rest = sym (withTokens-none (cutsFrom 0 0 l));
+        count = refl;
+        few = omega arith;
+        depth-is = refl;
+        arrow-is = refl;
+        words = sym (putIf-none write tokens₀ (5 * k));
+      }
+
+  module _ {tokens : List ℕ} {at n depth : ℕ} {arrow : Bool} (v : Progress tokens at n depth arrow) where
+    pub same-tokens : length tokens ≡ length tokens₀
+    same-tokens = ap length (v .words) ∙ length-putIf write tokens₀ (5 * k) (tokenWords p number (v .done))
+
+    pub at-end : length l ≤ at → cutsFrom 0 0 l ≡ cuts (v .done)
+    unfolding withTokens
+    at-end h = v .rest ∙ ap (withTokens (v .done)) (cuts-end at l h) ∙ ap cuts (append-nil (v .done))
+
+    module _ (h : at < length l) where
+      pub at-comment : cut (drop at l) ≡ comment → cutsFrom 0 0 l ≡ cuts (v .done)
+      unfolding withTokens
+      at-comment e = v .rest ∙ ap (withTokens (v .done)) (cuts-comment at l h e) ∙ ap cuts (append-nil (v .done))
+
+      pub at-failure : (f : Failure) → cut (drop at l) ≡ fails f → cutsFrom 0 0 l ≡ stops (movedBy at f)
+      unfolding withTokens
+      at-failure f e = v .rest ∙ ap (withTokens (v .done)) (cuts-fails at l h f e)
+
+      pub past-blank : cut (drop at l) ≡ blank → Progress tokens (at + 1) n depth arrow
+      past-blank e =
+          record {
+            done = v .done;
+            inside = omega arith;
+            rest = v .rest ∙ ap (withTokens (v .done)) (cuts-blank at l h e);
+            count = v .count;
+            few = omega (arith, v .few);
+            depth-is = v .depth-is;
+            arrow-is = v .arrow-is;
+            words = v .words;
+          }
+
+      -- the kind that the pass gives serves the depth and the arrow
+      pub past-token : (real kind size : ℕ) → cut (drop at l) ≡ token real size → Named write real kind → (tokens′ : List ℕ)
+          → tokens′ ≡ putIf write tokens (5 * (k + n)) (kind ∷ (p + at) ∷ size ∷ number ∷ (at + 1) ∷ [])
+          → Progress tokens′ (at + size) (n + 1) (depthBy depth kind) (eqb kind Implies)
+      unfolding depthBy
+      past-token real kind size e same tokens′ written =
+          let ok : TokenOk (drop at l) real size = rw e at (cut-ok (drop at l)) in
+          let t : Token = tokenAt real at size in
+          let paren : eqb real LParen ≡ eqb kind LParen = plain-eqb LParen real kind (omega arith) (same .plain) in
+          let close : eqb real RParen ≡ eqb kind RParen = plain-eqb RParen real kind (omega arith) (same .plain) in
+          let arr : eqb real Implies ≡ eqb kind Implies = plain-eqb Implies real kind (omega arith) (same .plain) in
+          let before : List ℕ = tokenWords p number (v .done) in
+          let place : 5 * (k + n) ≡ 5 * k + length before = omega (arith, length-tokenWords p number (v .done), v .count) in
+          record {
+            done = v .done ++ (t ∷ []);
+            inside = omega (arith, ok .in-line, length-drop at l);
+            rest = v .rest ∙ ap (withTokens (v .done)) (cuts-token at l h real size e) ∙ withTokens-more (v .done) t (cutsFrom (at + size) 0 (drop (at + size) l));
+            count = omega (arith, length-append (v .done) (t ∷ []), v .count);
+            few = omega (arith, v .few, ok .some-bytes);
+            depth-is = depth-snoc d₀ (v .done) t ∙ rw (v .depth-is, paren, close);
+            arrow-is = arrow-snoc false (v .done) t ∙ arr;
+            words = written
+                ∙ ap (λ (x : List ℕ). putIf write x (5 * (k + n)) (kind ∷ (p + at) ∷ size ∷ number ∷ (at + 1) ∷ [])) (v .words)
+                ∙ putIf-append write tokens₀ (5 * k) (5 * (k + n)) before (kind ∷ (p + at) ∷ size ∷ number ∷ (at + 1) ∷ []) place
+                ∙ putIf-by write tokens₀ (5 * k) _ (tokenWords p number (v .done ++ (t ∷ [])))
+                (λ w. ap (λ (x : ℕ). before ++ (x ∷ (p + at) ∷ size ∷ number ∷ (at + 1) ∷ [])) (sym (same .real w))
+                ∙ ap (λ (x : ℕ). before ++ (real ∷ (p + at) ∷ size ∷ number ∷ x ∷ [])) (add-one at) ∙ sym (words-snoc p number (v .done) t));
+          }
+
+      -- a token more has room where all tokens of the line have
+      pub room-for : (real size : ℕ) → cut (drop at l) ≡ token real size → (ts : List Token) → cutsFrom 0 0 l ≡ cuts ts → n < length ts
+      unfolding withTokens withToken
+      room-for real size e ts all =
+          go (cutsFrom (at + size) 0 (drop (at + size) l)) (v .rest ∙ ap (withTokens (v .done)) (cuts-token at l h real size e))
+        where
+          go : (x : Cuts) → cutsFrom 0 0 l ≡ withTokens (v .done) (withToken (tokenAt real at size) x) → n < length ts
+          go (cuts us) q =
+              let same : ts ≡ v .done ++ (tokenAt real at size ∷ us) = cc in
+              omega (arith, ap length same, length-append (v .done) (tokenAt real at size ∷ us), v .count)
+          go (stops f) q = let z : _≡_ {A = ℕ} 0 1 = cc in absurd (omega arith)

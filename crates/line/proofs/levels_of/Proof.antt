@@ -1,0 +1,45 @@
+-- `line::levels_of` meets its contract.
+-- Assumes nothing.
+use Prim.Native.Nat.{ℕ}
+use mathlib.Core.Path.{_≡_, refl, sym, ap, _∙_}
+use native.Mathlib.Omega.{arith}
+use lib.ListN.{take}
+use borrow.Author.Needs.{needs}
+use Rattle.rules.specs.Line.{isCompared, compared, levelsOf}
+use Rattle.line.proofs.levels_of.Statement.{statement}
+use Rattle.line.proofs.levels_of.Tie as tie
+
+is-compared-requires : tie.Need-is-compared-requires
+is-compared-requires c κs = search needs
+
+compute-indent-requires : tie.Need-compute-indent-requires
+compute-indent-requires c κs = search needs
+
+compare-levels-requires : tie.Need-compare-levels-requires
+compare-levels-requires c κs = search needs
+
+same-length : tie.Need-same-length
+same-length c = search needs
+
+returns : tie.Need-returns
+unfolding levelsOf isCompared
+returns c =
+    let b = c .before .before in
+    let d = b .before .before .before in
+    let a = d .before .before .before .before .args in
+    rw (sym (d .before .is-compared .ensures) ∙ d .if1 .taken) (b .compare-levels .ensures ∙ ap (λ (w : ℕ). compared 16 w (take (a .s .levels) (a .widths .now))) (b .before .compute-indent .ensures))
+
+returns-2 : tie.Need-returns-2
+unfolding levelsOf isCompared
+returns-2 c = rw (sym (c .before .is-compared .ensures) ∙ c .if1 .left)
+
+pub levels-of-spec : {M : Type 1} → statement M
+levels-of-spec =
+    tie.close
+    (tie.spec
+    is-compared-requires
+    compute-indent-requires
+    compare-levels-requires
+    same-length
+    returns
+    returns-2)

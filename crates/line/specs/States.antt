@@ -1,0 +1,26 @@
+-- States and levels of the code, as the rules have them.
+-- Assumes nothing.
+use Prim.Native.Nat.{ℕ}
+use mathlib.Core.Bool.{Bool, true, false}
+use mathlib.Core.List.{List, [], _∷_}
+use lib.ListN.{take}
+use Rattle.rules.specs.Lists.{if_then_else_}
+use Rattle.rules.specs.Kinds.{Indent}
+use Rattle.rules.specs.Line as rules-line
+use Rattle.line.specs.declared.State.{State}
+use Rattle.line.specs.declared.Lead.{Lead}
+use Rattle.line.specs.declared.Compared.{Compared}
+use Rattle.line.specs.declared.Compared.the-variants.{Levels, Unequal, TooDeep}
+
+-- the state before a line: the code keeps the widths beside it, those of the open levels at the front
+abbrev pub stateOf : State → (widths : List ℕ) → rules-line.State
+stateOf s ws = record { depth = s .depth; arrow = s .arrow; widths = take (s .levels) ws }
+
+-- what stands at a line's start: an Indent, or Dedents
+abbrev pub leading : Lead → List rules-line.Token
+leading l = if l .opens then rules-line.tokenAt Indent 0 0 ∷ [] else rules-line.dedents (l .closes)
+
+abbrev pub comparedOf : Compared → (widths : List ℕ) → rules-line.Levels
+comparedOf (Levels l) ws = rules-line.Levels.levels (leading l) (take (l .levels) ws)
+comparedOf Unequal ws = rules-line.Levels.unequal
+comparedOf TooDeep ws = rules-line.Levels.tooDeep

@@ -1,0 +1,248 @@
+// One line, read from the state before it.
+ghost use mathlib.Core.Path.{_≡_};
+ghost use mathlib.Core.Bool.{true, _||_};
+ghost use mathlib.Core.List.{[], _∷_};
+ghost use Prim.Native.Nat.{_+_, _-_, _*_, _≤_, _<_};
+ghost use lib.ListN.{length, drop, take};
+ghost use Rattle.rules.specs.Lists.{run, trimEnd, lastD};
+ghost use Rattle.rules.specs.Tables.{isBlank};
+ghost use Rattle.rules.specs.Line.{isSpace, isTab, indentWidth, indentSize, isBlankLine, isCompared, compared, levelsOf, dedents};
+ghost use Rattle.rules.specs.Records.{tokenWords};
+ghost use lib.Dec.{ltb};
+ghost use Rattle.line.specs.States.{stateOf, comparedOf};
+ghost use Rattle.laws.specs.Puts.{putIf};
+
+// The state before a line; the widths of its open levels stand beside it, outermost first.
+pub struct State {
+    pub depth: u32,
+    pub arrow: bool,
+    pub levels: usize,
+}
+
+// What a line's width gives: an Indent, or so many Dedents, and the levels then open.
+pub struct Lead {
+    pub opens: bool,
+    pub closes: usize,
+    pub levels: usize,
+}
+
+// The same; or a width that is none of the open ones; or a level too many.
+pub enum Compared {
+    Levels(Lead),
+    Unequal,
+    TooDeep,
+}
+
+// The indent width: leading spaces count 1, tabs 4.
+pub fn compute_indent(line: &[u8]) -> u32
+    requires { ⌜ length (now line) ≤ 1_048_576 ⌝ }
+    ensures { λ r. ⌜ r ≡ indentWidth (now (line .entry)) ⌝ }
+{
+    let mut width: u32 = 0;
+    let mut i: usize = 0;
+    while i < line.len() {
+        let b = line[i];
+        if b == 32 {
+            width += 1;
+            i += 1;
+            continue;
+        }
+        if b != 9 {
+            return width;
+        }
+        width += 4;
+        i += 1;
+    }
+    width
+}
+
+// A space or a tab.
+fn is_indent(b: u8) -> bool
+    ensures { λ r. ⌜ r ≡ (isSpace b || isTab b) ⌝ }
+{
+    if b == 32 {
+        return true;
+    }
+    b == 9
+}
+
+// The leading spaces and tabs.
+pub fn leading_indent_bytes(line: &[u8]) -> usize
+    ensures { λ r. ⌜ r ≡ indentSize (now (line .entry)) ⌝ }
+{
+    let mut i: usize = 0;
+    while i < line.len() {
+        if !is_indent(line[i]) {
+            return i;
+        }
+        i += 1;
+    }
+    i
+}
+
+// A space, a tab or a CR.
+fn is_blank(b: u8) -> bool
+    ensures { λ r. ⌜ r ≡ isBlank b ⌝ }
+{
+    if b == 32 {
+        return true;
+    }
+    if b == 9 {
+        return true;
+    }
+    b == 13
+}
+
+// Where the leading spaces, tabs and CRs end.
+fn blank_end(line: &[u8]) -> usize
+    ensures { λ r. ⌜ r ≡ run isBlank (now (line .entry)) ⌝ }
+{
+    let mut i: usize = 0;
+    while i < line.len() {
+        if !is_blank(line[i]) {
+            return i;
+        }
+        i += 1;
+    }
+    i
+}
+
+// After its blanks the line is empty or begins with `#` or `//`.
+pub fn line_is_blank_or_comment(line: &[u8]) -> bool
+    ensures { λ r. ⌜ r ≡ isBlankLine (now (line .entry)) ⌝ }
+{
+    let at = blank_end(line);
+    if at == line.len() {
+        return true;
+    }
+    if cut::begins_at(line, at, b"#") {
+        return true;
+    }
+    cut::begins_at(line, at, b"//")
+}
+
+// The innermost width, 0 at base.
+fn innermost(widths: &[u32], levels: usize) -> u32
+    requires { ⌜ (length (now widths) ≡ 16) × (levels ≤ 16) ⌝ }
+    ensures { λ r. ⌜ r ≡ lastD (take levels (now (widths .entry))) 0 ⌝ }
+{
+    if levels == 0 {
+        return 0;
+    }
+    widths[levels - 1]
+}
+
+// The levels that are left when those wider than the line are popped.
+fn levels_left(widths: &[u32], levels: usize, width: u32) -> usize
+    requires { ⌜ (length (now widths) ≡ 16) × (levels ≤ 16) ⌝ }
+    ensures { λ r. ⌜ (r ≤ levels) × (take r (now (widths .entry)) ≡ trimEnd (ltb width) (take levels (now (widths .entry)))) ⌝ }
+{
+    let mut left = levels;
+    while 0 < left {
+        if widths[left - 1] <= width {
+            return left;
+        }
+        left -= 1;
+    }
+    0
+}
+
+// The line's width compared with the open levels; a wider one is pushed.
+fn compare_levels(widths: &mut [u32], levels: usize, width: u32) -> Compared
+    requires { ⌜ (length (now widths) ≡ 16) × (levels ≤ 16) ⌝ }
+    ensures { λ r. ⌜ comparedOf r (now (widths .exit)) ≡ compared 16 width (take levels (now (widths .entry))) ⌝ }
+{
+    if innermost(widths, levels) < width {
+        if levels == 16 {
+            return Compared::TooDeep;
+        }
+        widths[levels] = width;
+        return Compared::Levels(Lead {
+            opens: true,
+            closes: 0,
+            levels: levels + 1,
+        });
+    }
+    let left = levels_left(widths, levels, width);
+    if innermost(widths, left) != width {
+        return Compared::Unequal;
+    }
+    Compared::Levels(Lead {
+        opens: false,
+        closes: levels - left,
+        levels: left,
+    })
+}
+
+// The line's width is compared: it is not blank, no bracket is open and no arrow is carried.
+fn is_compared(line: &[u8], s: State) -> bool
+    ensures { λ r. ⌜ r ≡ isCompared (stateOf s []) (now (line .entry)) ⌝ }
+{
+    if s.depth != 0 {
+        return false;
+    }
+    if s.arrow {
+        return false;
+    }
+    !line_is_blank_or_comment(line)
+}
+
+// The levels at a line's start.
+fn levels_of(line: &[u8], s: State, widths: &mut [u32]) -> Compared
+    requires { ⌜ (length (now line) ≤ 1_048_576) × (length (now widths) ≡ 16) × (s .levels ≤ 16) ⌝ }
+    ensures { λ r. ⌜ comparedOf r (now (widths .exit)) ≡ levelsOf 16 (stateOf s (now (widths .entry))) (now (line .entry)) ⌝ }
+{
+    let levels = s.levels;
+    if is_compared(line, s) {
+        return compare_levels(widths, levels, compute_indent(line));
+    }
+    Compared::Levels(Lead {
+        opens: false,
+        closes: 0,
+        levels: levels,
+    })
+}
+
+// Token record k, where the pass writes: kind, position, length, line, column.
+pub fn put_token(
+    tokens: &mut [u32],
+    write: bool,
+    k: usize,
+    kind: u32,
+    position: u32,
+    size: u32,
+    number: u32,
+    column: u32,
+)
+    requires { ⌜ (write ≡ true → 5 * k + 5 ≤ length (now tokens)) ⌝ }
+    ensures { λ _. ⌜ now (tokens .exit) ≡ putIf write (now (tokens .entry)) (5 * k) (kind ∷ position ∷ size ∷ number ∷ column ∷ []) ⌝ }
+{
+    if !write {
+        return;
+    }
+    let at = 5 * k;
+    tokens[at] = kind;
+    tokens[at + 1] = position;
+    tokens[at + 2] = size;
+    tokens[at + 3] = number;
+    tokens[at + 4] = column;
+}
+
+// So many Dedents from record k on, where the pass writes, at this position and line, column 1.
+pub fn put_dedents(
+    tokens: &mut [u32],
+    write: bool,
+    k: usize,
+    count: usize,
+    position: u32,
+    number: u32,
+)
+    requires { ⌜ (k + count ≤ 4_194_304) × (write ≡ true → 5 * (k + count) ≤ length (now tokens)) ⌝ }
+    ensures { λ _. ⌜ now (tokens .exit) ≡ putIf write (now (tokens .entry)) (5 * k) (tokenWords position number (dedents count)) ⌝ }
+{
+    let mut j: usize = 0;
+    while j < count {
+        put_token(tokens, write, k + j, 91, position, 0, number, 1);
+        j += 1;
+    }
+}
