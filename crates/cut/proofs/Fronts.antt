@@ -10,7 +10,7 @@ use lib.Dec.{eqb}
 use lib.ListN.{length, getD, take, drop, drop-of-length-le}
 use lib.Seq.{drop-cons}
 use borrow.Author.Tests.{eq-eqb, ne-eqb}
-use Rattle.rules.specs.Lists.{begins, trimEnd}
+use Rattle.rules.specs.Lists.{any, elem, begins, trimmed, trimEnd}
 use Rattle.rules.specs.Tables.{isCR}
 use Rattle.rules.proofs.ListLaws.{begins-le, trim-pass, trim-stop}
 
@@ -52,3 +52,29 @@ module _ (l : List ℕ) (n : ℕ) (some : 0 < n) (inside : n ≤ length l) where
   pub cr-stop : (getD l (n - 1) 0 ≡ 13 → ⊥) → trimEnd isCR (take n l) ≡ take n l
   unfolding isCR
   cr-stop h = rw last at (trim-stop isCR l (n - 1) (omega arith) (ne-eqb (getD l (n - 1) 0) 13 h))
+
+-- One of some bytes, one at a time.
+module _ (b : ℕ) (p : List ℕ) (j : ℕ) where
+  pub among-here : j < length p → b ≡ getD p j 0 → elem b (drop j p) ≡ true
+  unfolding elem any
+  among-here h e = rw (drop-cons p j 0 h, eq-eqb b (getD p j 0) e)
+
+  pub among-past : j < length p → (b ≡ getD p j 0 → ⊥) → elem b (drop j p) ≡ elem b (drop (j + 1) p)
+  unfolding elem any
+  among-past h e = rw (drop-cons p j 0 h, ne-eqb b (getD p j 0) e, add-one)
+
+  pub among-end : length p ≤ j → elem b (drop j p) ≡ false
+  unfolding elem any
+  among-end h = rw (drop-of-length-le p h)
+
+-- a line less its trailing CRs is its front
+trimmed-front : (b : Bool) (x : ℕ) (xs ys : List ℕ) → ys ≡ take (length ys) xs → trimmed b x ys ≡ take (length (trimmed b x ys)) (x ∷ xs)
+unfolding trimmed
+trimmed-front true x xs [] e = refl
+trimmed-front false x xs [] e = refl
+trimmed-front b x xs (y ∷ ys) e = ap (λ (r : List ℕ). x ∷ r) e
+
+pub trim-front : (f : ℕ → Bool) (l : List ℕ) → trimEnd f l ≡ take (length (trimEnd f l)) l
+unfolding trimEnd
+trim-front f [] = refl
+trim-front f (x ∷ l) = trimmed-front (f x) x l (trimEnd f l) (trim-front f l)

@@ -1,2 +1,4 @@
 pub mod Fronts
 pub mod Plain
+pub mod Literals
+pub mod Numbers

@@ -9,6 +9,7 @@ use Rattle.rules.specs.Failure as rules-failure
 use Rattle.rules.specs.Cut as rules-cut
 use Rattle.cut.specs.declared.Failure.{Failure}
 use Rattle.cut.specs.declared.Cut.{Cut}
+use Rattle.cut.specs.declared.Number.{Number}
 use Rattle.cut.specs.declared.Cut.the-variants.{Blank, Comment, Token, Fails}
 
 abbrev pub failureOf : Failure → rules-failure.Failure
@@ -19,6 +20,9 @@ cutOf Blank = rules-cut.Cut.blank
 cutOf Comment = rules-cut.Cut.comment
 cutOf (Token k n) = rules-cut.Cut.token k n
 cutOf (Fails f) = rules-cut.Cut.fails (failureOf f)
+
+abbrev pub numberOf : Number → rules-cut.Number
+numberOf n = record { digits = n .digits; suffix = n .suffix }
 
 -- A pass that only counts takes every word for an Ident.
 

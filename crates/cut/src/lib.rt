@@ -3,10 +3,32 @@ ghost use mathlib.Core.Path.{_≡_};
 ghost use mathlib.Core.Bool.{_||_};
 ghost use Prim.Native.Nat.{_+_, _-_, _≤_, _<_};
 ghost use lib.ListN.{length, drop, take};
-ghost use Rattle.rules.specs.Lists.{begins, run, trimEnd};
-ghost use Rattle.rules.specs.Tables.{isCR};
-ghost use Rattle.rules.specs.Cut.{inString, stringCut};
-ghost use Rattle.cut.specs.Cuts.{cutOf};
+ghost use Rattle.rules.specs.Lists.{ascii, elem, begins, run, trimEnd};
+ghost use Rattle.rules.specs.Tables.{isCR, isDigit, isHexDigit, signs};
+ghost use Rattle.rules.specs.Cut.{
+  failing,
+  finding,
+  fractionSize,
+  digitsSize,
+  suffixes,
+  suffixSize,
+  scanNumber,
+  inString,
+  stringCut,
+  lineEnds,
+  closingCut,
+  lowDigitCut,
+  highDigitCut,
+  escapeCut,
+  contentCut,
+  byteCut,
+  wordCut,
+  letterCut,
+  signCut,
+};
+ghost use Rattle.spelling.specs.Bytes.{classTable, reachTable};
+ghost use Rattle.spelling.specs.Rows.{keywordTable, signTable, signIndexTable};
+ghost use Rattle.cut.specs.Cuts.{cutOf, cutNamed, numberOf};
 
 // A failure of the rest of a line: its detail, the scalar that the detail shows, its offset and its range's length.
 pub struct Failure {
@@ -22,6 +44,12 @@ pub enum Cut {
     Comment,
     Token(u32, usize),
     Fails(Failure),
+}
+
+// A number's scan: the bytes of its digits and fraction, and those of its suffix.
+pub struct Number {
+    pub digits: usize,
+    pub suffix: usize,
 }
 
 // The line begins at `at` with these bytes.
@@ -88,4 +116,264 @@ fn string_cut(line: &[u8], at: usize) -> Cut
         at: 0,
         size: size,
     })
+}
+
+// Byte literals. A line counts as ended at its trailing CRs, so `line` is lent without them; each step stands at offset `k` of the literal
+// that begins at `at`.
+
+// A hex digit.
+fn is_hex_digit(b: u8) -> bool
+    ensures { λ r. ⌜ r ≡ isHexDigit b ⌝ }
+{
+    if b < 48 {
+        return false;
+    }
+    if b <= 57 {
+        return true;
+    }
+    if b < 65 {
+        return false;
+    }
+    if b <= 70 {
+        return true;
+    }
+    if b < 97 {
+        return false;
+    }
+    b <= 102
+}
+
+// A failure over the scalar at offset k, which the detail shows.
+fn finding_at(line: &[u8], at: usize, k: usize, detail: u32) -> Cut
+    requires { ⌜ at + k ≤ length (now line) ⌝ }
+    ensures { λ r. ⌜ cutOf r ≡ finding detail k (drop (at + k) (now (line .entry))) ⌝ }
+{
+    let found = utf8::scalar_value(line, at + k);
+    let size = utf8::scalar_size(line, at + k);
+    Cut::Fails(Failure {
+        detail: detail,
+        found: found,
+        at: k,
+        size: size,
+    })
+}
+
+// A failure over the scalar at offset k, which the detail does not show.
+fn failing_at(line: &[u8], at: usize, k: usize, detail: u32) -> Cut
+    requires { ⌜ at + k ≤ length (now line) ⌝ }
+    ensures { λ r. ⌜ cutOf r ≡ failing detail k (drop (at + k) (now (line .entry))) ⌝ }
+{
+    let size = utf8::scalar_size(line, at + k);
+    Cut::Fails(Failure {
+        detail: detail,
+        found: 0,
+        at: k,
+        size: size,
+    })
+}
+
+// The line ends before the literal does.
+fn line_ends(k: usize) -> Cut
+    ensures { λ r. ⌜ cutOf r ≡ lineEnds k ⌝ }
+{
+    Cut::Fails(Failure {
+        detail: 5,
+        found: 0,
+        at: 0,
+        size: k,
+    })
+}
+
+// The closing quote.
+fn closing_cut(line: &[u8], at: usize, k: usize) -> Cut
+    requires { ⌜ at + k ≤ length (now line) ⌝ }
+    ensures { λ r. ⌜ cutOf r ≡ closingCut k (drop (at + k) (now (line .entry))) ⌝ }
+{
+    if line.len() == at + k {
+        return line_ends(k);
+    }
+    if line[at + k] == 39 {
+        return Cut::Token(47, k + 1);
+    }
+    finding_at(line, at, k, 12)
+}
+
+// The second digit of `\x`.
+fn low_digit_cut(line: &[u8], at: usize) -> Cut
+    requires { ⌜ at + 5 ≤ length (now line) ⌝ }
+    ensures { λ r. ⌜ cutOf r ≡ lowDigitCut (drop (at + 5) (now (line .entry))) ⌝ }
+{
+    if line.len() == at + 5 {
+        return line_ends(5);
+    }
+    if is_hex_digit(line[at + 5]) {
+        return closing_cut(line, at, 6);
+    }
+    finding_at(line, at, 5, 8)
+}
+
+// The first digit of `\x`, 0 to 7.
+fn high_digit_cut(line: &[u8], at: usize) -> Cut
+    requires { ⌜ at + 4 ≤ length (now line) ⌝ }
+    ensures { λ r. ⌜ cutOf r ≡ highDigitCut (drop (at + 4) (now (line .entry))) ⌝ }
+{
+    if line.len() == at + 4 {
+        return line_ends(4);
+    }
+    let b = line[at + 4];
+    if !is_hex_digit(b) {
+        return finding_at(line, at, 4, 8);
+    }
+    if 55 < b {
+        return failing_at(line, at, 4, 7);
+    }
+    low_digit_cut(line, at)
+}
+
+// One of these bytes.
+fn is_among(b: u8, bytes: &[u8]) -> bool
+    ensures { λ r. ⌜ r ≡ elem b (now (bytes .entry)) ⌝ }
+{
+    let mut j: usize = 0;
+    while j < bytes.len() {
+        if b == bytes[j] {
+            return true;
+        }
+        j += 1;
+    }
+    false
+}
+
+// What follows the backslash.
+fn escape_cut(line: &[u8], at: usize) -> Cut
+    requires { ⌜ at + 3 ≤ length (now line) ⌝ }
+    ensures { λ r. ⌜ cutOf r ≡ escapeCut (drop (at + 3) (now (line .entry))) ⌝ }
+{
+    if line.len() == at + 3 {
+        return line_ends(3);
+    }
+    let b = line[at + 3];
+    if is_among(b, b"0tnr'\\\"") {
+        return closing_cut(line, at, 4);
+    }
+    if b == 120 {
+        return high_digit_cut(line, at);
+    }
+    finding_at(line, at, 3, 9)
+}
+
+// What stands between the quotes.
+fn content_cut(line: &[u8], at: usize) -> Cut
+    requires { ⌜ at + 2 ≤ length (now line) ⌝ }
+    ensures { λ r. ⌜ cutOf r ≡ contentCut (drop (at + 2) (now (line .entry))) ⌝ }
+{
+    if line.len() == at + 2 {
+        return line_ends(2);
+    }
+    let b = line[at + 2];
+    if b == 39 {
+        return failing_at(line, at, 2, 6);
+    }
+    if b == 92 {
+        return escape_cut(line, at);
+    }
+    if 127 < b {
+        return finding_at(line, at, 2, 11);
+    }
+    if b < 32 {
+        return finding_at(line, at, 2, 10);
+    }
+    if b == 127 {
+        return finding_at(line, at, 2, 10);
+    }
+    closing_cut(line, at, 3)
+}
+
+// The byte literal that begins with `b'` at `at`.
+fn scan_ascii_byte_literal(line: &[u8], at: usize) -> Cut
+    requires { ⌜ at + 2 ≤ length (trimEnd isCR (now line)) ⌝ }
+    ensures { λ r. ⌜ cutOf r ≡ byteCut (drop at (now (line .entry))) ⌝ }
+{
+    let end = trimmed_end(line);
+    content_cut(&line[0..end], at)
+}
+
+// Numbers.
+
+// A digit.
+fn is_digit(b: u8) -> bool
+    ensures { λ r. ⌜ r ≡ isDigit b ⌝ }
+{
+    if b < 48 {
+        return false;
+    }
+    b <= 57
+}
+
+// Where a fraction at `at` ends: a point and a digit, with all digits and `_` that follow; `at` where there is none.
+fn fraction_end(reach: &[u8; 256], line: &[u8], at: usize) -> usize
+    requires { ⌜ now reach ≡ reachTable ⌝ }
+    requires { ⌜ at ≤ length (now line) ⌝ }
+    ensures { λ r. ⌜ r ≡ at + fractionSize (drop at (now (line .entry))) ⌝ }
+{
+    if line.len() - at < 2 {
+        return at;
+    }
+    if line[at] != 46 {
+        return at;
+    }
+    if !is_digit(line[at + 1]) {
+        return at;
+    }
+    spelling::run_end(reach, line, at + 1, 3)
+}
+
+// Where a number's digits and fraction end.
+fn digits_end(reach: &[u8; 256], line: &[u8], at: usize) -> usize
+    requires { ⌜ now reach ≡ reachTable ⌝ }
+    requires { ⌜ at ≤ length (now line) ⌝ }
+    ensures { λ r. ⌜ r ≡ at + digitsSize (drop at (now (line .entry))) ⌝ }
+{
+    if begins_at(line, at, b"0x") {
+        return spelling::run_end(reach, line, at + 2, 2);
+    }
+    if begins_at(line, at, b"0X") {
+        return spelling::run_end(reach, line, at + 2, 2);
+    }
+    let end = spelling::run_end(reach, line, at, 3);
+    fraction_end(reach, line, end)
+}
+
+// The length of the suffix at `at`, 0 where there is none.
+fn suffix_size(line: &[u8], at: usize) -> usize
+    requires { ⌜ at ≤ length (now line) ⌝ }
+    ensures { λ r. ⌜ r ≡ suffixSize suffixes (drop at (now (line .entry))) ⌝ }
+{
+    if begins_at(line, at, b"fx") {
+        return 2;
+    }
+    if begins_at(line, at, b"i32") {
+        return 3;
+    }
+    if begins_at(line, at, b"u32") {
+        return 3;
+    }
+    if begins_at(line, at, b"f64") {
+        return 3;
+    }
+    0
+}
+
+// The number at `at`.
+pub fn scan_number(reach: &[u8; 256], line: &[u8], at: usize) -> Number
+    requires { ⌜ now reach ≡ reachTable ⌝ }
+    requires { ⌜ at ≤ length (now line) ⌝ }
+    ensures { λ r. ⌜ numberOf r ≡ scanNumber (drop at (now (line .entry))) ⌝ }
+{
+    let end = digits_end(reach, line, at);
+    let suffix = suffix_size(line, end);
+    Number {
+        digits: end - at,
+        suffix: suffix,
+    }
 }

@@ -80,6 +80,13 @@ InLine s n = (0 < n) × (n ≤ length s)
 hex-in : (s : List ℕ) → 2 ≤ length s → InLine s (2 + run inHex (drop 2 s))
 hex-in s h = (omega arith, omega (arith, run-le inHex (drop 2 s), length-drop 2 s))
 
+pub digits-le : (s : List ℕ) → digitsSize s ≤ length s
+unfolding digitsSize
+digits-le s =
+    if-by (λ n. n ≤ length s) (begins (ascii "0x") s || begins (ascii "0X") s)
+    (or-by (begins (ascii "0x") s) (begins (ascii "0X") s) (λ k. hex-in s (begins-le (ascii "0x") s k) .1) (λ k. hex-in s (begins-le (ascii "0X") s k) .1))
+    (λ _. decimal-le s)
+
 digits-in : (b : ℕ) (s : List ℕ) → isDigit b ≡ true → InLine (b ∷ s) (digitsSize (b ∷ s))
 unfolding digitsSize decimalSize inDecimal
 digits-in b s h =

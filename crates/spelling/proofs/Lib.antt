@@ -1,0 +1,4 @@
+pub mod ReachLaws
+pub mod SearchLaws
+pub mod GroupLaws
+pub mod TableLaws

@@ -1,0 +1,3 @@
+pub mod Second
+pub mod Value
+pub mod Passed
