@@ -7,12 +7,12 @@ use mathlib.Core.List.{List, [], _∷_}
 use native.Mathlib.Omega.{arith}
 use native.Mathlib.Numerals.{add-one}
 use lib.Dec.{eqb}
-use lib.ListN.{length, getD, take, drop, drop-of-length-le}
+use lib.ListN.{length, getD, take, drop, drop-of-length-le, length-drop}
 use lib.Seq.{drop-cons}
-use borrow.Author.Tests.{eq-eqb, ne-eqb}
-use Rattle.rules.specs.Lists.{any, elem, begins, trimmed, trimEnd}
+use borrow.Author.Tests.{eq-eqb, ne-eqb, eqb-true}
+use Rattle.rules.specs.Lists.{ascii, any, elem, begins, trimmed, trimEnd}
 use Rattle.rules.specs.Tables.{isCR}
-use Rattle.rules.proofs.ListLaws.{begins-le, trim-pass, trim-stop}
+use Rattle.rules.proofs.ListLaws.{and-left, and-right, begins-le, trim-pass, trim-stop, trimEnd-keeps}
 
 module _ (p s : List ℕ) (at j : ℕ) (hp : j < length p) (hs : at + j < length s) where
   step : begins (drop j p) (drop (at + j) s) ≡ (eqb (getD p j 0) (getD s (at + j) 0) && begins (drop (j + 1) p) (drop (at + (j + 1)) s))
@@ -78,3 +78,16 @@ pub trim-front : (f : ℕ → Bool) (l : List ℕ) → trimEnd f l ≡ take (len
 unfolding trimEnd
 trim-front f [] = refl
 trim-front f (x ∷ l) = trimmed-front (f x) x l (trimEnd f l) (trim-front f l)
+
+-- a line that has `b'` has them before its trailing CRs
+pub literal-room : (line : List ℕ) (at : ℕ) → begins (ascii "b'") (drop at line) ≡ true → at + 2 ≤ length (trimEnd isCR line)
+unfolding begins isCR
+literal-room line at e =
+    let n = begins-le (ascii "b'") (drop at line) e in
+    let m = length-drop at line in
+    let h : suc at < length line = omega arith in
+    let parts : drop at line ≡ getD line at 0 ∷ getD line (suc at) 0 ∷ drop (suc (suc at)) line =
+    drop-cons line at 0 (omega arith) ∙ ap (λ (l : List ℕ). getD line at 0 ∷ l) (drop-cons line (suc at) 0 h) in
+    let both : (eqb 98 (getD line at 0) && (eqb 39 (getD line (suc at) 0) && true)) ≡ true = ap (begins (ascii "b'")) (sym parts) ∙ e in
+    let q = eqb-true 39 (getD line (suc at) 0) (and-left (eqb 39 (getD line (suc at) 0)) true (and-right (eqb 98 (getD line at 0)) _ both)) in
+    omega (arith, trimEnd-keeps isCR line (suc at) h (ne-eqb (getD line (suc at) 0) 13 (λ r. omega arith)))

@@ -1,4 +1,5 @@
 pub mod Fronts
 pub mod Plain
+pub mod Words
 pub mod Literals
 pub mod Numbers

@@ -2,9 +2,11 @@
 -- Assumes nothing.
 use Prim.Native.Nat.{ℕ}
 use mathlib.Core.Bool.{Bool, true, false}
+use mathlib.Core.List.{List}
 use lib.Dec.{ltb}
-use Rattle.rules.specs.Lists.{if_then_else_}
+use Rattle.rules.specs.Lists.{if_then_else_, ascii, begins}
 use Rattle.rules.specs.Kinds.{Ident}
+use Rattle.rules.specs.Tables.{signs}
 use Rattle.rules.specs.Failure as rules-failure
 use Rattle.rules.specs.Cut as rules-cut
 use Rattle.cut.specs.declared.Failure.{Failure}
@@ -23,6 +25,14 @@ cutOf (Fails f) = rules-cut.Cut.fails (failureOf f)
 
 abbrev pub numberOf : Number → rules-cut.Number
 numberOf n = record { digits = n .digits; suffix = n .suffix }
+
+-- the first sign of the table that a text begins with
+abbrev pub anySign : List ℕ → rules-cut.Cut
+anySign s = rules-cut.signCut signs s
+
+-- a comment, or a sign
+abbrev pub commentOr : List ℕ → rules-cut.Cut
+commentOr s = if begins (ascii "//") s then rules-cut.Cut.comment else anySign s
 
 -- A pass that only counts takes every word for an Ident.
 

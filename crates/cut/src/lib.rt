@@ -4,7 +4,7 @@ ghost use mathlib.Core.Bool.{_||_};
 ghost use Prim.Native.Nat.{_+_, _-_, _≤_, _<_};
 ghost use lib.ListN.{length, drop, take};
 ghost use Rattle.rules.specs.Lists.{ascii, elem, begins, run, trimEnd};
-ghost use Rattle.rules.specs.Tables.{isCR, isDigit, isHexDigit, signs};
+ghost use Rattle.rules.specs.Tables.{isCR, isDigit, isHexDigit};
 ghost use Rattle.rules.specs.Cut.{
   failing,
   finding,
@@ -22,13 +22,14 @@ ghost use Rattle.rules.specs.Cut.{
   escapeCut,
   contentCut,
   byteCut,
+  numberCut,
   wordCut,
   letterCut,
-  signCut,
+  cut,
 };
 ghost use Rattle.spelling.specs.Bytes.{classTable, reachTable};
 ghost use Rattle.spelling.specs.Rows.{keywordTable, signTable, signIndexTable};
-ghost use Rattle.cut.specs.Cuts.{cutOf, cutNamed, numberOf};
+ghost use Rattle.cut.specs.Cuts.{cutOf, cutNamed, numberOf, anySign, commentOr};
 
 // A failure of the rest of a line: its detail, the scalar that the detail shows, its offset and its range's length.
 pub struct Failure {
@@ -375,5 +376,104 @@ pub fn scan_number(reach: &[u8; 256], line: &[u8], at: usize) -> Number
     Number {
         digits: end - at,
         suffix: suffix,
+    }
+}
+
+// A number, with its suffix.
+fn number_cut(reach: &[u8; 256], line: &[u8], at: usize) -> Cut
+    requires { ⌜ now reach ≡ reachTable ⌝ }
+    requires { ⌜ at ≤ length (now line) ⌝ }
+    ensures { λ r. ⌜ cutOf r ≡ numberCut (drop at (now (line .entry))) ⌝ }
+{
+    let number = scan_number(reach, line, at);
+    Cut::Token(46, number.digits + number.suffix)
+}
+
+// A word: letters, digits, `_`; its kind only where it is asked for.
+fn word_cut(reach: &[u8; 256], keywords: &[u8; 506], line: &[u8], at: usize, named: bool) -> Cut
+    requires { ⌜ now reach ≡ reachTable ⌝ }
+    requires { ⌜ now keywords ≡ keywordTable ⌝ }
+    requires { ⌜ at ≤ length (now line) ⌝ }
+    ensures { λ r. ⌜ cutOf r ≡ cutNamed named (wordCut (drop at (now (line .entry)))) ⌝ }
+{
+    let end = spelling::run_end(reach, line, at, 1);
+    if named {
+        let kind = spelling::word_kind(keywords, &line[at..end]);
+        return Cut::Token(kind, end - at);
+    }
+    Cut::Token(45, end - at)
+}
+
+// What a letter begins: a byte literal or a word.
+fn letter_cut(reach: &[u8; 256], keywords: &[u8; 506], line: &[u8], at: usize, named: bool) -> Cut
+    requires { ⌜ now reach ≡ reachTable ⌝ }
+    requires { ⌜ now keywords ≡ keywordTable ⌝ }
+    requires { ⌜ at ≤ length (now line) ⌝ }
+    ensures { λ r. ⌜ cutOf r ≡ cutNamed named (letterCut (drop at (now (line .entry)))) ⌝ }
+{
+    if begins_at(line, at, b"b'") {
+        return scan_ascii_byte_literal(line, at);
+    }
+    word_cut(reach, keywords, line, at, named)
+}
+
+// The first sign that the rest begins with; what is left is a lone `&`.
+fn sign_cut(index: &[u8; 256], signs: &[u8; 451], line: &[u8], at: usize) -> Cut
+    requires { ⌜ now index ≡ signIndexTable ⌝ }
+    requires { ⌜ now signs ≡ signTable ⌝ }
+    requires { ⌜ at ≤ length (now line) ⌝ }
+    ensures { λ r. ⌜ cutOf r ≡ anySign (drop at (now (line .entry))) ⌝ }
+{
+    match spelling::sign_at(index, signs, &line[at..]) {
+        spelling::Spelled::Kind(kind, size) => Cut::Token(kind, size),
+        spelling::Spelled::Unspelled => Cut::Fails(Failure {
+            detail: 2,
+            found: 0,
+            at: 0,
+            size: 1,
+        }),
+    }
+}
+
+// What a byte of the class of signs begins: a comment or a sign.
+fn sign_or_comment(index: &[u8; 256], signs: &[u8; 451], line: &[u8], at: usize) -> Cut
+    requires { ⌜ now index ≡ signIndexTable ⌝ }
+    requires { ⌜ now signs ≡ signTable ⌝ }
+    requires { ⌜ at ≤ length (now line) ⌝ }
+    ensures { λ r. ⌜ cutOf r ≡ commentOr (drop at (now (line .entry))) ⌝ }
+{
+    if begins_at(line, at, b"//") {
+        return Cut::Comment;
+    }
+    sign_cut(index, signs, line, at)
+}
+
+// The cut at `at`, by the class of the byte there. The tables are lent.
+pub fn next_token(
+    class: &[u8; 256],
+    reach: &[u8; 256],
+    index: &[u8; 256],
+    signs: &[u8; 451],
+    keywords: &[u8; 506],
+    line: &[u8],
+    at: usize,
+    named: bool,
+) -> Cut
+    requires { ⌜ now class ≡ classTable ⌝ }
+    requires { ⌜ now reach ≡ reachTable ⌝ }
+    requires { ⌜ now index ≡ signIndexTable ⌝ }
+    requires { ⌜ now signs ≡ signTable ⌝ }
+    requires { ⌜ now keywords ≡ keywordTable ⌝ }
+    requires { ⌜ at < length (now line) ⌝ }
+    ensures { λ r. ⌜ cutOf r ≡ cutNamed named (cut (drop at (now (line .entry)))) ⌝ }
+{
+    match spelling::class_of(class, line[at]) {
+        0 => Cut::Blank,
+        1 => Cut::Comment,
+        2 => letter_cut(reach, keywords, line, at, named),
+        3 => number_cut(reach, line, at),
+        4 => string_cut(line, at),
+        5 => sign_or_comment(index, signs, line, at),
+        _ => finding_at(line, at, 0, 1),
     }
 }

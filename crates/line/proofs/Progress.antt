@@ -1,7 +1,7 @@
 -- The cuts of a line as a loop makes them: what was cut so far, and what is left.
 -- Assumes nothing.
 use Prim.Native.Nat.{ℕ, zero, suc, _+_, _-_, _*_, _≤_, _<_, pred}
-use mathlib.Core.Path.{_≡_, refl, sym, ap, _∙_}
+use mathlib.Core.Path.{_≡_, refl, sym, ap, subst, _∙_}
 use mathlib.Core.Bool.{Bool, true, false}
 use mathlib.Core.List.{List, [], _∷_, _++_, append-assoc, append-nil}
 use native.Mathlib.Omega.{arith}
@@ -16,8 +16,12 @@ use Rattle.rules.specs.Line.{Token, tokenAt, Cuts, cuts, stops, withToken, move
 use Rattle.rules.specs.Records.{tokenWords}
 use Rattle.rules.proofs.CutLaws.{TokenOk, CutOk, cut-ok, cuts-end, cuts-blank, cuts-comment, cuts-token, cuts-fails}
 use Rattle.rules.proofs.RecordLaws.{length-tokenWords}
-use Rattle.cut.specs.Cuts.{plainKind}
-use Rattle.cut.proofs.Plain.{Named, plain-eqb}
+use Rattle.cut.specs.Cuts.{plainKind, cutNamed}
+use Rattle.cut.proofs.Plain.{Named, named-token, plain-eqb}
+use Rattle.rules.proofs.ListLaws.{if-by}
+use Rattle.line.specs.States.{depthBy}
+use Rattle.line.specs.LineCuts.{failureIn, lineCutsOf, tokensOf, RoomFor}
+use Rattle.line.specs.declared.LineCuts.the-variants.{Ends, Stops}
 use Rattle.laws.specs.Puts.{putIf}
 use Rattle.laws.proofs.Puts.{length-putIf, putIf-append, putIf-none, putIf-by}
 
@@ -52,10 +56,6 @@ words-snoc : (p l : ℕ) (ts : List Token) (t : Token) → tokenWords p l (ts ++
 unfolding tokenWords
 words-snoc p l [] t = refl
 words-snoc p l (x ∷ ts) t = rw (words-snoc p l ts t)
-
--- the depth that a kind leaves
-unfoldable pub depthBy : (depth kind : ℕ) → ℕ
-depthBy d k = if eqb k LParen then suc d else if eqb k RParen then pred d else d
 
 -- the line, the depth before it, the place of its tokens, and whether they are written
 module _ (l : List ℕ) (d₀ p number k : ℕ) (write : Bool) (tokens₀ : List ℕ) where
@@ -116,9 +116,9 @@ module _ (l : List ℕ) (d₀ p number k : ℕ) (write : Bool) (tokens₀ : List
       -- the kind that the pass gives serves the depth and the arrow
       pub past-token : (real kind size : ℕ) → cut (drop at l) ≡ token real size → Named write real kind → (tokens′ : List ℕ)
           → tokens′ ≡ putIf write tokens (5 * (k + n)) (kind ∷ (p + at) ∷ size ∷ number ∷ (at + 1) ∷ [])
-          → Progress tokens′ (at + size) (n + 1) (depthBy depth kind) (eqb kind Implies)
+          → (depth′ : ℕ) → depth′ ≡ depthBy depth kind → Progress tokens′ (at + size) (n + 1) depth′ (eqb kind Implies)
       unfolding depthBy
-      past-token real kind size e same tokens′ written =
+      past-token real kind size e same tokens′ written depth′ left =
           let ok : TokenOk (drop at l) real size = rw e at (cut-ok (drop at l)) in
           let t : Token = tokenAt real at size in
           let paren : eqb real LParen ≡ eqb kind LParen = plain-eqb LParen real kind (omega arith) (same .plain) in
@@ -132,7 +132,7 @@ module _ (l : List ℕ) (d₀ p number k : ℕ) (write : Bool) (tokens₀ : List
             rest = v .rest ∙ ap (withTokens (v .done)) (cuts-token at l h real size e) ∙ withTokens-more (v .done) t (cutsFrom (at + size) 0 (drop (at + size) l));
             count = omega (arith, length-append (v .done) (t ∷ []), v .count);
             few = omega (arith, v .few, ok .some-bytes);
-            depth-is = depth-snoc d₀ (v .done) t ∙ rw (v .depth-is, paren, close);
+            depth-is = depth-snoc d₀ (v .done) t ∙ rw (v .depth-is, paren, close) (sym left);
             arrow-is = arrow-snoc false (v .done) t ∙ arr;
             words = written
                 ∙ ap (λ (x : List ℕ). putIf write x (5 * (k + n)) (kind ∷ (p + at) ∷ size ∷ number ∷ (at + 1) ∷ [])) (v .words)
@@ -153,3 +153,54 @@ module _ (l : List ℕ) (d₀ p number k : ℕ) (write : Bool) (tokens₀ : List
               let same : ts ≡ v .done ++ (tokenAt real at size ∷ us) = cc in
               omega (arith, ap length same, length-append (v .done) (tokenAt real at size ∷ us), v .count)
           go (stops f) q = let z : _≡_ {A = ℕ} 0 1 = cc in absurd (omega arith)
+
+    -- The line is done: all that was cut stands there, or the pass does not write.
+
+    pub ended : cutsFrom 0 0 l ≡ cuts (v .done)
+        → (Ends n depth arrow ≡ lineCutsOf d₀ (cutsFrom 0 0 l)) × (tokens ≡ putIf write tokens₀ (5 * k) (tokenWords p number (tokensOf (cutsFrom 0 0 l))))
+    ended e = (
+      (λ i. Ends (sym (v .count) i) (sym (v .depth-is) i) (sym (v .arrow-is) i)) ∙ ap (lineCutsOf d₀) (sym e),
+      v .words ∙ ap (λ (x : Cuts). putIf write tokens₀ (5 * k) (tokenWords p number (tokensOf x))) (sym e),
+    )
+
+    pub stopped : (f : Failure) (m : ℕ) → cutsFrom 0 0 l ≡ stops f → (write ≡ true → RoomFor (cutsFrom 0 0 l) k m)
+        → (Stops (failureIn f) ≡ lineCutsOf d₀ (cutsFrom 0 0 l)) × (tokens ≡ putIf write tokens₀ (5 * k) (tokenWords p number (tokensOf (cutsFrom 0 0 l))))
+    stopped f m e room = (
+      ap (lineCutsOf d₀) (sym e),
+      v .words ∙ putIf-by write tokens₀ (5 * k) (tokenWords p number (v .done)) (tokenWords p number (tokensOf (cutsFrom 0 0 l)))
+          (λ w. absurd (subst (λ (x : Cuts). RoomFor x k m) e (room w))),
+    )
+
+-- room for all tokens of a line
+pub all-room : (x : Cuts) (k m : ℕ) → RoomFor x k m → (ts : List Token) × (x ≡ cuts ts) × (5 * (k + length ts) ≤ m)
+all-room (cuts ts) k m h = (ts, refl, h)
+all-room (stops f) k m h = absurd h
+
+pub depth-by-le : (d kind : ℕ) → depthBy d kind ≤ d + 1
+unfolding depthBy
+depth-by-le d kind =
+    if-by (λ n. n ≤ d + 1) (eqb kind LParen) (λ _. omega arith) (λ _. if-by (λ n. n ≤ d + 1) (eqb kind RParen) (λ _. pred-le d) (λ _. omega arith))
+  where
+    pred-le : (n : ℕ) → pred n ≤ n + 1
+    pred-le zero = omega arith
+    pred-le (suc n) = omega arith
+
+-- a token that a pass is given at an offset: its real kind, and its bytes in the line
+pub record TokenAt (w : Bool) (l : List ℕ) (at kind size : ℕ) : Type 0 where
+  pub real : ℕ
+  pub is : cut (drop at l) ≡ token real size
+  pub named : Named w real kind
+  pub some-bytes : 0 < size
+  pub in-line : at + size ≤ length l
+
+pub token-at : (w : Bool) (l : List ℕ) (at kind size : ℕ) → at < length l → cutNamed w (cut (drop at l)) ≡ token kind size → TokenAt w l at kind size
+token-at w l at kind size h e =
+    let t = named-token w (cut (drop at l)) kind size e in
+    let ok : TokenOk (drop at l) (t .0) size = rw (t .1) at (cut-ok (drop at l)) in
+    record { real = t .0; is = t .1; named = t .2; some-bytes = ok .some-bytes; in-line = omega (arith, ok .in-line, length-drop at l) }
+
+-- a failure at an offset stands in the line
+pub failure-at : (l : List ℕ) (at : ℕ) (f : Failure) → at < length l → cut (drop at l) ≡ fails f → at + f .at ≤ length l
+failure-at l at f h e =
+    let ok : f .at + f .size ≤ length (drop at l) = rw e at (cut-ok (drop at l)) in
+    omega (arith, ok, length-drop at l)

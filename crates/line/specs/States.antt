@@ -1,11 +1,12 @@
 -- States and levels of the code, as the rules have them.
 -- Assumes nothing.
-use Prim.Native.Nat.{ℕ}
+use Prim.Native.Nat.{ℕ, suc, pred}
 use mathlib.Core.Bool.{Bool, true, false}
 use mathlib.Core.List.{List, [], _∷_}
+use lib.Dec.{eqb}
 use lib.ListN.{take}
 use Rattle.rules.specs.Lists.{if_then_else_}
-use Rattle.rules.specs.Kinds.{Indent}
+use Rattle.rules.specs.Kinds.{LParen, RParen, Indent}
 use Rattle.rules.specs.Line as rules-line
 use Rattle.line.specs.declared.State.{State}
 use Rattle.line.specs.declared.Lead.{Lead}
@@ -24,3 +25,7 @@ abbrev pub comparedOf : Compared → (widths : List ℕ) → rules-line.Levels
 comparedOf (Levels l) ws = rules-line.Levels.levels (leading l) (take (l .levels) ws)
 comparedOf Unequal ws = rules-line.Levels.unequal
 comparedOf TooDeep ws = rules-line.Levels.tooDeep
+
+-- the depth that a token of this kind leaves
+unfoldable pub depthBy : (depth kind : ℕ) → ℕ
+depthBy d k = if eqb k LParen then suc d else if eqb k RParen then pred d else d

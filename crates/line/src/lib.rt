@@ -6,10 +6,13 @@ ghost use Prim.Native.Nat.{_+_, _-_, _*_, _≤_, _<_};
 ghost use lib.ListN.{length, drop, take};
 ghost use Rattle.rules.specs.Lists.{run, trimEnd, lastD};
 ghost use Rattle.rules.specs.Tables.{isBlank};
-ghost use Rattle.rules.specs.Line.{isSpace, isTab, indentWidth, indentSize, isBlankLine, isCompared, compared, levelsOf, dedents};
+ghost use Rattle.rules.specs.Line.{isSpace, isTab, indentWidth, indentSize, isBlankLine, isCompared, compared, levelsOf, dedents, cutsFrom};
 ghost use Rattle.rules.specs.Records.{tokenWords};
 ghost use lib.Dec.{ltb};
-ghost use Rattle.line.specs.States.{stateOf, comparedOf};
+ghost use Rattle.spelling.specs.Bytes.{classTable, reachTable};
+ghost use Rattle.spelling.specs.Rows.{keywordTable, signTable, signIndexTable};
+ghost use Rattle.line.specs.States.{stateOf, comparedOf, depthBy};
+ghost use Rattle.line.specs.LineCuts.{lineCutsOf, tokensOf, RoomFor};
 ghost use Rattle.laws.specs.Puts.{putIf};
 
 // The state before a line; the widths of its open levels stand beside it, outermost first.
@@ -245,4 +248,95 @@ pub fn put_dedents(
         put_token(tokens, write, k + j, 91, position, 0, number, 1);
         j += 1;
     }
+}
+
+// The depth that a token of this kind leaves.
+fn depth_by(depth: u32, kind: u32) -> u32
+    requires { ⌜ depth ≤ 2_097_152 ⌝ }
+    ensures { λ r. ⌜ r ≡ depthBy depth kind ⌝ }
+{
+    if kind == 78 {
+        return depth + 1;
+    }
+    if kind != 79 {
+        return depth;
+    }
+    if depth == 0 {
+        return 0;
+    }
+    depth - 1
+}
+
+// What the cuts of a line give: the number of tokens, the depth after them and whether the last one is an arrow; or the first failure.
+pub enum LineCuts {
+    Ends(usize, u32, bool),
+    Stops(cut::Failure),
+}
+
+// The tokens of a line, where the pass writes from record k on: the line starts at `position` and has this number.
+// A pass that does not write asks for no kinds of words.
+pub fn cut_line(
+    class: &[u8; 256],
+    reach: &[u8; 256],
+    index: &[u8; 256],
+    signs: &[u8; 451],
+    keywords: &[u8; 506],
+    line: &[u8],
+    tokens: &mut [u32],
+    write: bool,
+    k: usize,
+    position: u32,
+    number: u32,
+    depth: u32,
+) -> LineCuts
+    requires { ⌜ now class ≡ classTable ⌝ }
+    requires { ⌜ now reach ≡ reachTable ⌝ }
+    requires { ⌜ now index ≡ signIndexTable ⌝ }
+    requires { ⌜ now signs ≡ signTable ⌝ }
+    requires { ⌜ now keywords ≡ keywordTable ⌝ }
+    requires { ⌜ (position + length (now line) ≤ 1_048_576) × ((depth ≤ 1_048_576) × (k ≤ 4_194_304)) ⌝ }
+    requires { ⌜ (write ≡ true → RoomFor (cutsFrom 0 0 (now line)) k (length (now tokens))) ⌝ }
+    ensures { λ r. ⌜ r ≡ lineCutsOf depth (cutsFrom 0 0 (now (line .entry))) ⌝ }
+    ensures { λ _. ⌜ now (tokens .exit) ≡ putIf write (now (tokens .entry)) (5 * k) (tokenWords position number (tokensOf (cutsFrom 0 0 (now (line .entry))))) ⌝ }
+{
+    let mut at: usize = 0;
+    let mut n: usize = 0;
+    let mut open = depth;
+    let mut arrow = false;
+    while at < line.len() {
+        match cut::next_token(class, reach, index, signs, keywords, line, at, write) {
+            cut::Cut::Blank => {
+                at += 1;
+                continue;
+            }
+            cut::Cut::Comment => {
+                return LineCuts::Ends(n, open, arrow);
+            }
+            cut::Cut::Token(kind, size) => {
+                put_token(
+                    tokens,
+                    write,
+                    k + n,
+                    kind,
+                    position + at as u32,
+                    size as u32,
+                    number,
+                    at as u32 + 1,
+                );
+                open = depth_by(open, kind);
+                arrow = kind == 67;
+                n += 1;
+                at += size;
+            }
+            cut::Cut::Fails(f) => {
+                return LineCuts::Stops(cut::Failure {
+                    detail: f.detail,
+                    found: f.found,
+                    at: at + f.at,
+                    size: f.size,
+                });
+            }
+        }
+    }
+    LineCuts::Ends(n, open, arrow)
 }

@@ -65,7 +65,7 @@ fraction-le [] = zero-le
 fraction-le (x ∷ s) =
     if-by (λ n. n ≤ suc (length s)) (begins (ascii ".") (x ∷ s) && ltb 0 (run isDigit s)) (λ _. suc-le-suc (run-le inDecimal s)) (λ _. zero-le)
 
-suffix-le : (xs : List (List ℕ)) (s : List ℕ) → suffixSize xs s ≤ length s
+pub suffix-le : (xs : List (List ℕ)) (s : List ℕ) → suffixSize xs s ≤ length s
 unfolding suffixSize
 suffix-le [] s = zero-le
 suffix-le (x ∷ xs) s = if-by (λ n. n ≤ length s) (begins x s) (begins-le x s) (λ _. suffix-le xs s)

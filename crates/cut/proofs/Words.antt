@@ -1,0 +1,125 @@
+-- Words at an index of a line, and the cuts that hold no word: those are the same with the kinds of words or without.
+-- Assumes nothing.
+use Prim.Native.Nat.{ℕ, suc, _+_, _-_, _≤_, _<_}
+use Prim.Native.Char.{code}
+use mathlib.Core.Path.{_≡_, refl, sym, ap, ap₂, _∙_}
+use mathlib.Core.Bool.{Bool, true, false}
+use mathlib.Core.List.{List, [], _∷_}
+use native.Mathlib.Omega.{arith}
+use lib.Dec.{ltb, leb, eqb}
+use lib.ListN.{length, getD, drop, take}
+use lib.Seq.{drop-cons}
+use borrow.Author.Tests.{leb-true, le-ltb}
+use Rattle.rules.specs.Lists.{if_then_else_, within, ascii, elem, every, begins, run, same, trimEnd}
+use Rattle.rules.specs.Kinds.{Ident}
+use Rattle.rules.specs.Tables.{Spelling, isCR, isHexDigit, classOf, keywords, signs, wordKind, tableRules}
+use Rattle.rules.specs.Cut.{Cut, token, inWord, wordCut, numberCut, stringEnd, stringCut, closingCut, lowDigitCut, highDigitCut, escapeCut, contentCut, byteCut, signCut, cutBy, cut}
+use Rattle.rules.proofs.ListLaws.{if-by, and-true}
+use Rattle.spelling.specs.Bytes.{reaches}
+use Rattle.spelling.proofs.ReachLaws.{run-word}
+use Rattle.cut.specs.Cuts.{plainKind, plainCut, cutNamed}
+
+-- Words.
+
+-- a keyword's kind is below that of an identifier
+keywords-below : every (λ (k : Spelling). ltb (k .kind) Ident) keywords ≡ true
+unfolding tableRules
+keywords-below = refl
+
+plain-word-kind : (w : List ℕ) (ks : List Spelling) → every (λ (k : Spelling). ltb (k .kind) Ident) ks ≡ true → plainKind (wordKind ks w) ≡ Ident
+unfolding wordKind every plainKind
+plain-word-kind w [] e = refl
+plain-word-kind w (k ∷ ks) e =
+    let p = and-true (ltb (k .kind) Ident) (every (λ (k : Spelling). ltb (k .kind) Ident) ks) e in
+    if-by (λ n. plainKind n ≡ Ident) (same (k .bytes) w) (λ _. rw (p .0)) (λ _. plain-word-kind w ks (p .1))
+
+module _ (line : List ℕ) (at end : ℕ) (e : end ≡ at + run (reaches 1) (drop at line)) where
+  pub word-size : end - at ≡ run inWord (drop at line)
+  word-size = omega (arith, run-word (drop at line))
+
+  pub word-plain : token Ident (end - at) ≡ plainCut (wordCut (drop at line))
+  unfolding wordCut
+  word-plain = ap₂ token (sym (plain-word-kind (take (run inWord (drop at line)) (drop at line)) keywords keywords-below)) word-size
+
+  pub word-named : token (wordKind keywords (take (end - at) (drop at line))) (end - at) ≡ wordCut (drop at line)
+  unfolding wordCut
+  word-named = ap (λ (n : ℕ). token (wordKind keywords (take n (drop at line))) n) word-size
+
+-- Cuts that hold no word.
+
+abbrev Plain : Cut → Type 0
+Plain c = plainCut c ≡ c
+
+closing-plain : (k : ℕ) (s : List ℕ) → Plain (closingCut k s)
+unfolding closingCut plainKind
+closing-plain k [] = refl
+closing-plain k (c ∷ s) = if-by Plain (eqb c (code "'")) (λ _. refl) (λ _. refl)
+
+low-plain : (s : List ℕ) → Plain (lowDigitCut s)
+unfolding lowDigitCut
+low-plain [] = refl
+low-plain (c ∷ s) = if-by Plain (isHexDigit c) (λ _. closing-plain 6 s) (λ _. refl)
+
+high-plain : (s : List ℕ) → Plain (highDigitCut s)
+unfolding highDigitCut
+high-plain [] = refl
+high-plain (c ∷ s) = if-by Plain (within (code "0") (code "7") c) (λ _. low-plain s) (λ _. if-by Plain (isHexDigit c) (λ _. refl) (λ _. refl))
+
+escape-plain : (s : List ℕ) → Plain (escapeCut s)
+unfolding escapeCut
+escape-plain [] = refl
+escape-plain (c ∷ s) =
+    if-by Plain (elem c (ascii "0tnr'\\\"")) (λ _. closing-plain 4 s) (λ _. if-by Plain (eqb c (code "x")) (λ _. high-plain s) (λ _. refl))
+
+content-plain : (s : List ℕ) → Plain (contentCut s)
+unfolding contentCut
+content-plain [] = refl
+content-plain (c ∷ s) =
+    if-by Plain (eqb c (code "'")) (λ _. refl)
+    (λ _. if-by Plain (eqb c (code "\\")) (λ _. escape-plain s)
+    (λ _. if-by Plain (within 0x20 0x7E c) (λ _. closing-plain 3 s)
+    (λ _. if-by Plain (ltb c 0x80) (λ _. refl) (λ _. refl))))
+
+pub byte-plain : (s : List ℕ) → Plain (byteCut s)
+unfolding byteCut
+byte-plain s = content-plain (drop 2 (trimEnd isCR s))
+
+pub number-plain : (s : List ℕ) → Plain (numberCut s)
+unfolding numberCut plainKind
+number-plain s = refl
+
+pub string-plain : (s : List ℕ) → Plain (stringCut s)
+unfolding stringCut plainKind
+string-plain s = if-by Plain (ltb (stringEnd s) (length s)) (λ _. refl) (λ _. refl)
+
+-- no sign's kind is below that of an identifier
+signs-above : every (λ (k : Spelling). leb Ident (k .kind)) signs ≡ true
+unfolding tableRules
+signs-above = refl
+
+sign-plain : (s : List ℕ) (ks : List Spelling) → every (λ (k : Spelling). leb Ident (k .kind)) ks ≡ true → Plain (signCut ks s)
+unfolding signCut every plainKind
+sign-plain s [] e = refl
+sign-plain s (k ∷ ks) e =
+    let p = and-true (leb Ident (k .kind)) (every (λ (k : Spelling). leb Ident (k .kind)) ks) e in
+    if-by Plain (begins (k .bytes) s) (λ _. rw (le-ltb (k .kind) Ident (leb-true _ _ (p .0)))) (λ _. sign-plain s ks (p .1))
+
+pub any-sign-plain : (s : List ℕ) → Plain (signCut signs s)
+any-sign-plain s = sign-plain s signs signs-above
+
+pub named-plain : (w : Bool) (c : Cut) → plainCut c ≡ c → c ≡ cutNamed w c
+named-plain true c e = refl
+named-plain false c e = sym e
+
+-- A cut by the class of its first byte.
+
+module _ (w : Bool) (line : List ℕ) (at : ℕ) (h : at < length line) where
+  by-first : cut (drop at line) ≡ cutBy (classOf (getD line at 0)) (drop at line)
+  unfolding cut
+  by-first = rw (drop-cons line at 0 h)
+
+  pub in-class : (k : ℕ) → classOf (getD line at 0) ≡ k → cutNamed w (cutBy k (drop at line)) ≡ cutNamed w (cut (drop at line))
+  in-class k e = ap (cutNamed w) (sym (by-first ∙ ap (λ (n : ℕ). cutBy n (drop at line)) e))
+
+  pub plain-class : (k : ℕ) → classOf (getD line at 0) ≡ k → Plain (cutBy k (drop at line)) → cutBy k (drop at line) ≡ cutNamed w (cut (drop at line))
+  plain-class k e p = named-plain w (cutBy k (drop at line)) p ∙ in-class k e
