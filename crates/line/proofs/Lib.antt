@@ -2,3 +2,4 @@ pub mod Indents
 pub mod Levels
 pub mod Dedents
 pub mod Progress
+pub mod Whole

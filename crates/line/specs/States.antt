@@ -1,6 +1,6 @@
 -- States and levels of the code, as the rules have them.
 -- Assumes nothing.
-use Prim.Native.Nat.{ℕ, suc, pred}
+use Prim.Native.Nat.{ℕ, suc, pred, _≤_}
 use mathlib.Core.Bool.{Bool, true, false}
 use mathlib.Core.List.{List, [], _∷_}
 use lib.Dec.{eqb}
@@ -25,6 +25,12 @@ abbrev pub comparedOf : Compared → (widths : List ℕ) → rules-line.Levels
 comparedOf (Levels l) ws = rules-line.Levels.levels (leading l) (take (l .levels) ws)
 comparedOf Unequal ws = rules-line.Levels.unequal
 comparedOf TooDeep ws = rules-line.Levels.tooDeep
+
+-- at most 16 levels open and as many closed
+abbrev pub Within : Compared → Type 0
+Within (Levels l) = (l .levels ≤ 16) × (l .closes ≤ 16)
+Within Unequal = Unit {0}
+Within TooDeep = Unit {0}
 
 -- the depth that a token of this kind leaves
 unfoldable pub depthBy : (depth kind : ℕ) → ℕ

@@ -6,13 +6,13 @@ ghost use Prim.Native.Nat.{_+_, _-_, _*_, _≤_, _<_};
 ghost use lib.ListN.{length, drop, take};
 ghost use Rattle.rules.specs.Lists.{run, trimEnd, lastD};
 ghost use Rattle.rules.specs.Tables.{isBlank};
-ghost use Rattle.rules.specs.Line.{isSpace, isTab, indentWidth, indentSize, isBlankLine, isCompared, compared, levelsOf, dedents, cutsFrom};
+ghost use Rattle.rules.specs.Line.{isSpace, isTab, indentWidth, indentSize, isBlankLine, isCompared, compared, levelsOf, dedents, cutsFrom, readLine};
 ghost use Rattle.rules.specs.Records.{tokenWords};
 ghost use lib.Dec.{ltb};
 ghost use Rattle.spelling.specs.Bytes.{classTable, reachTable};
 ghost use Rattle.spelling.specs.Rows.{keywordTable, signTable, signIndexTable};
-ghost use Rattle.line.specs.States.{stateOf, comparedOf, depthBy};
-ghost use Rattle.line.specs.LineCuts.{lineCutsOf, tokensOf, RoomFor};
+ghost use Rattle.line.specs.States.{stateOf, leading, comparedOf, Within, depthBy};
+ghost use Rattle.line.specs.LineCuts.{lineCutsOf, tokensOf, RoomFor, wholeLine, lineReadOf, tokensIn, RoomIn, counted, countedOf, LevelsWithin};
 ghost use Rattle.laws.specs.Puts.{putIf};
 
 // The state before a line; the widths of its open levels stand beside it, outermost first.
@@ -154,6 +154,7 @@ fn levels_left(widths: &[u32], levels: usize, width: u32) -> usize
 fn compare_levels(widths: &mut [u32], levels: usize, width: u32) -> Compared
     requires { ⌜ (length (now widths) ≡ 16) × (levels ≤ 16) ⌝ }
     ensures { λ r. ⌜ comparedOf r (now (widths .exit)) ≡ compared 16 width (take levels (now (widths .entry))) ⌝ }
+    ensures { λ r. ⌜ Within r ⌝ }
 {
     if innermost(widths, levels) < width {
         if levels == 16 {
@@ -194,6 +195,7 @@ fn is_compared(line: &[u8], s: State) -> bool
 fn levels_of(line: &[u8], s: State, widths: &mut [u32]) -> Compared
     requires { ⌜ (length (now line) ≤ 1_048_576) × (length (now widths) ≡ 16) × (s .levels ≤ 16) ⌝ }
     ensures { λ r. ⌜ comparedOf r (now (widths .exit)) ≡ levelsOf 16 (stateOf s (now (widths .entry))) (now (line .entry)) ⌝ }
+    ensures { λ r. ⌜ Within r ⌝ }
 {
     let levels = s.levels;
     if is_compared(line, s) {
@@ -339,4 +341,154 @@ pub fn cut_line(
         }
     }
     LineCuts::Ends(n, open, arrow)
+}
+
+// The Indent or the Dedents at a line's start, where the pass writes; how many they are.
+fn put_leading(
+    tokens: &mut [u32],
+    write: bool,
+    k: usize,
+    lead: Lead,
+    position: u32,
+    number: u32,
+) -> usize
+    requires { ⌜ (k ≤ 4_000_000) × (lead .closes ≤ 16) × (write ≡ true → 5 * (k + length (leading lead)) ≤ length (now tokens)) ⌝ }
+    ensures { λ r. ⌜ r ≡ length (leading lead) ⌝ }
+    ensures { λ _. ⌜ now (tokens .exit) ≡ putIf write (now (tokens .entry)) (5 * k) (tokenWords position number (leading lead)) ⌝ }
+{
+    if lead.opens {
+        put_token(tokens, write, k, 90, position, 0, number, 1);
+        return 1;
+    }
+    put_dedents(tokens, write, k, lead.closes, position, number);
+    lead.closes
+}
+
+// What a line gives: the number of its tokens and the state after it; or its failure; or a level too many.
+pub enum LineRead {
+    Reads(usize, State),
+    Fails(cut::Failure),
+    TooDeep,
+}
+
+// A line whose levels are known: what stands at its start, its cuts, and the Newline.
+fn cut_after(
+    class: &[u8; 256],
+    reach: &[u8; 256],
+    index: &[u8; 256],
+    signs: &[u8; 451],
+    keywords: &[u8; 506],
+    line: &[u8],
+    tokens: &mut [u32],
+    write: bool,
+    k: usize,
+    position: u32,
+    number: u32,
+    depth: u32,
+    lead: Lead,
+) -> LineRead
+    requires { ⌜ now class ≡ classTable ⌝ }
+    requires { ⌜ now reach ≡ reachTable ⌝ }
+    requires { ⌜ now index ≡ signIndexTable ⌝ }
+    requires { ⌜ now signs ≡ signTable ⌝ }
+    requires { ⌜ now keywords ≡ keywordTable ⌝ }
+    requires { ⌜ (position + length (now line) ≤ 1_048_576) × ((depth ≤ 1_048_576) × (k ≤ 3_000_000)) ⌝ }
+    requires { ⌜ lead .closes ≤ 16 ⌝ }
+    requires { ⌜ (write ≡ true → RoomFor (wholeLine lead (now line) (cutsFrom 0 0 (now line))) k (length (now tokens))) ⌝ }
+    ensures { λ r. ⌜ r ≡ lineReadOf lead (lineCutsOf depth (cutsFrom 0 0 (now (line .entry)))) ⌝ }
+    ensures { λ _. ⌜ now (tokens .exit) ≡ putIf write (now (tokens .entry)) (5 * k) (tokenWords position number (tokensOf (wholeLine lead (now (line .entry)) (cutsFrom 0 0 (now (line .entry)))))) ⌝ }
+{
+    let m = put_leading(tokens, write, k, lead, position, number);
+    match cut_line(
+        class,
+        reach,
+        index,
+        signs,
+        keywords,
+        line,
+        tokens,
+        write,
+        k + m,
+        position,
+        number,
+        depth,
+    ) {
+        LineCuts::Ends(n, open, arrow) => {
+            let size = line.len() as u32;
+            put_token(
+                tokens,
+                write,
+                k + m + n,
+                92,
+                position + size,
+                0,
+                number,
+                size + 1,
+            );
+            LineRead::Reads(
+                m + n + 1,
+                State {
+                    depth: open,
+                    arrow: arrow,
+                    levels: lead.levels,
+                },
+            )
+        }
+        LineCuts::Stops(f) => LineRead::Fails(f),
+    }
+}
+
+// One line from the state before it; `widths` holds the open levels and then those after the line.
+pub fn read_line(
+    class: &[u8; 256],
+    reach: &[u8; 256],
+    index: &[u8; 256],
+    signs: &[u8; 451],
+    keywords: &[u8; 506],
+    line: &[u8],
+    tokens: &mut [u32],
+    write: bool,
+    k: usize,
+    position: u32,
+    number: u32,
+    widths: &mut [u32],
+    s: State,
+) -> LineRead
+    requires { ⌜ now class ≡ classTable ⌝ }
+    requires { ⌜ now reach ≡ reachTable ⌝ }
+    requires { ⌜ now index ≡ signIndexTable ⌝ }
+    requires { ⌜ now signs ≡ signTable ⌝ }
+    requires { ⌜ now keywords ≡ keywordTable ⌝ }
+    requires { ⌜ (position + length (now line) ≤ 1_048_576) × ((s .depth ≤ 1_048_576) × (k ≤ 3_000_000)) ⌝ }
+    requires { ⌜ (length (now widths) ≡ 16) × (s .levels ≤ 16) ⌝ }
+    requires { ⌜ (write ≡ true → RoomIn (readLine 16 (stateOf s (now widths)) (now line)) k (length (now tokens))) ⌝ }
+    ensures { λ r. ⌜ countedOf r (now (widths .exit)) ≡ counted (readLine 16 (stateOf s (now (widths .entry))) (now (line .entry))) ⌝ }
+    ensures { λ r. ⌜ LevelsWithin r ⌝ }
+    ensures { λ _. ⌜ now (tokens .exit) ≡ putIf write (now (tokens .entry)) (5 * k) (tokenWords position number (tokensIn (readLine 16 (stateOf s (now (widths .entry))) (now (line .entry))))) ⌝ }
+{
+    let depth = s.depth;
+    match levels_of(line, s, widths) {
+        Compared::Levels(lead) => cut_after(
+            class,
+            reach,
+            index,
+            signs,
+            keywords,
+            line,
+            tokens,
+            write,
+            k,
+            position,
+            number,
+            depth,
+            lead,
+        ),
+        Compared::Unequal => LineRead::Fails(cut::Failure {
+            detail: 4,
+            found: 0,
+            at: 0,
+            size: leading_indent_bytes(line),
+        }),
+        Compared::TooDeep => LineRead::TooDeep,
+    }
 }

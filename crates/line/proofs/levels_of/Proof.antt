@@ -27,11 +27,11 @@ returns c =
     let b = c .before .before in
     let d = b .before .before .before in
     let a = d .before .before .before .before .args in
-    rw (sym (d .before .is-compared .ensures) ∙ d .if1 .taken) (b .compare-levels .ensures ∙ ap (λ (w : ℕ). compared 16 w (take (a .s .levels) (a .widths .now))) (b .before .compute-indent .ensures))
+    (rw (sym (d .before .is-compared .ensures) ∙ d .if1 .taken) (b .compare-levels .ensures .0 ∙ ap (λ (w : ℕ). compared 16 w (take (a .s .levels) (a .widths .now))) (b .before .compute-indent .ensures)), b .compare-levels .ensures .1)
 
 returns-2 : tie.Need-returns-2
 unfolding levelsOf isCompared
-returns-2 c = rw (sym (c .before .is-compared .ensures) ∙ c .if1 .left)
+returns-2 c = (rw (sym (c .before .is-compared .ensures) ∙ c .if1 .left), (omega arith, omega arith))
 
 pub levels-of-spec : {M : Type 1} → statement M
 levels-of-spec =
