@@ -1,0 +1,32 @@
+-- The answers in words, as the replies of the rules have them.
+-- Assumes nothing.
+use Prim.Native.Nat.{ℕ}
+use mathlib.Core.List.{List, [], _∷_}
+use mathlib.Core.Option.{Option}
+use Rattle.rules.specs.Replies.{Reply, outside, numbered, accepted, refusedIf, firstOf, unless}
+use Rattle.rules.specs.ByteValue.{valueWords}
+use Rattle.rules.specs.Column.{isOutside, panelColumn}
+use Rattle.queries.specs.declared.Value as value
+use Rattle.queries.specs.declared.Value.the-variants as a-value
+use Rattle.queries.specs.declared.Column as column
+use Rattle.queries.specs.declared.Column.the-variants as a-column
+
+abbrev pub valueNumbers : value.Value → List ℕ
+valueNumbers (a-value.Is v) = 0 ∷ 1 ∷ v ∷ []
+valueNumbers a-value.Nothing = 0 ∷ 0 ∷ []
+valueNumbers (a-value.TooLong n) = 1 ∷ n ∷ []
+valueNumbers (a-value.Malformed n) = 2 ∷ n ∷ []
+
+abbrev pub columnNumbers : column.Column → List ℕ
+columnNumbers (a-column.At n) = 0 ∷ n ∷ []
+columnNumbers (a-column.TooLong n) = 1 ∷ n ∷ []
+columnNumbers (a-column.Malformed n) = 2 ∷ n ∷ []
+columnNumbers a-column.Outside = 6 ∷ []
+
+-- a value, or none, accepted
+abbrev pub worth : Option ℕ → Reply
+worth v = accepted (valueWords v)
+
+-- the reply of a text that passes the tests 1 and 2
+abbrev pub placeReply : List ℕ → (at : ℕ) → Reply
+placeReply t at = unless (firstOf (refusedIf (isOutside t at) outside ∷ [])) numbered (accepted (panelColumn t at ∷ []))

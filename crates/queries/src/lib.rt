@@ -1,0 +1,219 @@
+// Two questions about a text by itself: the value of a byte literal, and the panel column of an offset.
+ghost use mathlib.Core.Path.{_≡_};
+ghost use Prim.Native.Nat.{_≤_};
+ghost use lib.ListN.{length};
+ghost use Rattle.rules.specs.ByteValue.{asciiValue, escapeValue, hexPair, innerValue, closedValue, literalValue, valueReply};
+ghost use Rattle.rules.specs.Column.{columnReply};
+ghost use Rattle.queries.specs.Answers.{valueNumbers, worth, columnNumbers, placeReply};
+ghost use Rattle.queries.specs.Steps.{digitOr, countAfter};
+
+// The longest text that is read.
+const MAX_BYTES: usize = 1_048_576;
+
+// The value of a byte literal: a value, or none; or why the text is refused, with its length or its longest well-formed prefix.
+pub enum Value {
+    Is(u32),
+    Nothing,
+    TooLong(usize),
+    Malformed(usize),
+}
+
+// The panel column of an offset; or why it is refused.
+pub enum Column {
+    At(usize),
+    TooLong(usize),
+    Malformed(usize),
+    Outside,
+}
+
+// Byte literals.
+
+// The value of a hex digit; 16 where the byte is none.
+fn hex_digit(b: u8) -> u32
+    ensures { λ r. ⌜ r ≡ digitOr b ⌝ }
+{
+    let d = b as u32;
+    if d < 48 {
+        return 16;
+    }
+    if d <= 57 {
+        return d - 48;
+    }
+    if d < 65 {
+        return 16;
+    }
+    if d <= 70 {
+        return d - 55;
+    }
+    if d < 97 {
+        return 16;
+    }
+    if d <= 102 {
+        return d - 87;
+    }
+    16
+}
+
+// The value of `\x` with these two bytes: two hex digits up to 7F, or `+` and a hex digit.
+fn hex_pair(high: u8, low: u8) -> Value
+    ensures { λ r. ⌜ valueNumbers r ≡ worth (hexPair high low) ⌝ }
+{
+    let l = hex_digit(low);
+    if l == 16 {
+        return Value::Nothing;
+    }
+    let h = hex_digit(high);
+    if h < 8 {
+        return Value::Is(16 * h + l);
+    }
+    if h < 16 {
+        return Value::Nothing;
+    }
+    if high == 43 {
+        return Value::Is(l);
+    }
+    Value::Nothing
+}
+
+// The value of a backslash with this byte.
+fn escape_value(b: u8) -> Value
+    ensures { λ r. ⌜ valueNumbers r ≡ worth (escapeValue b) ⌝ }
+{
+    match b {
+        48 => Value::Is(0),
+        116 => Value::Is(9),
+        110 => Value::Is(10),
+        114 => Value::Is(13),
+        39 => Value::Is(39),
+        92 => Value::Is(92),
+        34 => Value::Is(34),
+        _ => Value::Nothing,
+    }
+}
+
+// The value of a byte that stands for itself.
+fn ascii_value(b: u8) -> Value
+    ensures { λ r. ⌜ valueNumbers r ≡ worth (asciiValue b) ⌝ }
+{
+    if b < 128 {
+        return Value::Is(b as u32);
+    }
+    Value::Nothing
+}
+
+// The value of what stands between the quotes.
+fn inner_value(inner: &[u8]) -> Value
+    ensures { λ r. ⌜ valueNumbers r ≡ worth (innerValue (now (inner .entry))) ⌝ }
+{
+    if inner.len() == 1 {
+        return ascii_value(inner[0]);
+    }
+    if inner.len() == 2 {
+        if inner[0] == 92 {
+            return escape_value(inner[1]);
+        }
+        return Value::Nothing;
+    }
+    if inner.len() == 4 {
+        if inner[0] != 92 {
+            return Value::Nothing;
+        }
+        if inner[1] != 120 {
+            return Value::Nothing;
+        }
+        return hex_pair(inner[2], inner[3]);
+    }
+    Value::Nothing
+}
+
+// The value of what follows the opening quote: the closing quote must be there.
+fn closed_value(rest: &[u8]) -> Value
+    ensures { λ r. ⌜ valueNumbers r ≡ worth (closedValue (now (rest .entry))) ⌝ }
+{
+    if rest.len() == 0 {
+        return Value::Nothing;
+    }
+    let end = rest.len() - 1;
+    if rest[end] != 39 {
+        return Value::Nothing;
+    }
+    inner_value(&rest[0..end])
+}
+
+// The value of a text that is a byte literal.
+fn literal_value(text: &[u8]) -> Value
+    ensures { λ r. ⌜ valueNumbers r ≡ worth (literalValue (now (text .entry))) ⌝ }
+{
+    if text.len() < 2 {
+        return Value::Nothing;
+    }
+    if text[0] != 98 {
+        return Value::Nothing;
+    }
+    if text[1] != 39 {
+        return Value::Nothing;
+    }
+    closed_value(&text[2..])
+}
+
+// The value of a text that is a byte literal, where it is neither too long nor malformed.
+pub fn ascii_byte_literal_value(text: &[u8]) -> Value
+    ensures { λ r. ⌜ valueNumbers r ≡ valueReply (now (text .entry)) ⌝ }
+{
+    if MAX_BYTES < text.len() {
+        return Value::TooLong(text.len());
+    }
+    let prefix = utf8::well_formed_prefix(text);
+    if prefix < text.len() {
+        return Value::Malformed(prefix);
+    }
+    literal_value(text)
+}
+
+// Panel columns.
+
+// How many scalars a line has after one that begins with this byte: none after an LF, which ends the line.
+fn count_after(b: u8, count: usize) -> usize
+    requires { ⌜ count ≤ 1_048_576 ⌝ }
+    ensures { λ r. ⌜ r ≡ countAfter b count ⌝ }
+{
+    if b == 10 {
+        return 0;
+    }
+    count + 1
+}
+
+// The column of `at`: scalar by scalar from the front, with the scalars of the line that `i` stands in counted.
+fn column_at(text: &[u8], at: usize) -> Column
+    requires { ⌜ length (now text) ≤ 1_048_576 ⌝ }
+    ensures { λ r. ⌜ columnNumbers r ≡ placeReply (now (text .entry)) at ⌝ }
+{
+    let mut i: usize = 0;
+    let mut count: usize = 0;
+    while i < at {
+        let size = utf8::scalar_size(text, i);
+        if size == 0 {
+            return Column::Outside;
+        }
+        count = count_after(text[i], count);
+        i += size;
+    }
+    if at < i {
+        return Column::Outside;
+    }
+    Column::At(count + 1)
+}
+
+// The column of `at` in its line, where the text is neither too long nor malformed and a scalar begins there, or the text ends.
+pub fn panel_column(text: &[u8], at: usize) -> Column
+    ensures { λ r. ⌜ columnNumbers r ≡ columnReply (now (text .entry)) at ⌝ }
+{
+    if MAX_BYTES < text.len() {
+        return Column::TooLong(text.len());
+    }
+    let prefix = utf8::well_formed_prefix(text);
+    if prefix < text.len() {
+        return Column::Malformed(prefix);
+    }
+    column_at(text, at)
+}
