@@ -1,9 +1,9 @@
 -- The answers of the cutters, as the rules have them.
 -- Assumes nothing.
 use Prim.Native.Nat.{ℕ}
-use mathlib.Core.Bool.{Bool, true, false}
+use mathlib.Core.Bool.{Bool, true, false, not}
 use mathlib.Core.List.{List}
-use lib.Dec.{ltb}
+use lib.Dec.{ltb, eqb}
 use Rattle.rules.specs.Lists.{if_then_else_, ascii, begins}
 use Rattle.rules.specs.Kinds.{Ident}
 use Rattle.rules.specs.Tables.{signs}
@@ -25,6 +25,10 @@ cutOf (Fails f) = rules-cut.Cut.fails (failureOf f)
 
 abbrev pub numberOf : Number → rules-cut.Number
 numberOf n = record { digits = n .digits; suffix = n .suffix }
+
+-- a byte other than this one
+abbrev pub isOther : (byte b : ℕ) → Bool
+isOther byte b = not (eqb b byte)
 
 -- the first sign of the table that a text begins with
 abbrev pub anySign : List ℕ → rules-cut.Cut

@@ -29,7 +29,7 @@ ghost use Rattle.rules.specs.Cut.{
 };
 ghost use Rattle.spelling.specs.Bytes.{classTable, reachTable};
 ghost use Rattle.spelling.specs.Rows.{keywordTable, signTable, signIndexTable};
-ghost use Rattle.cut.specs.Cuts.{cutOf, cutNamed, numberOf, anySign, commentOr};
+ghost use Rattle.cut.specs.Cuts.{cutOf, cutNamed, numberOf, anySign, commentOr, isOther};
 
 // A failure of the rest of a line: its detail, the scalar that the detail shows, its offset and its range's length.
 pub struct Failure {
@@ -85,14 +85,14 @@ pub fn trimmed_end(line: &[u8]) -> usize
     0
 }
 
-// Where the next quote stands from `at` on, or the line's end.
-pub fn quote_at(line: &[u8], at: usize) -> usize
+// The first such byte of the line from `at` on, or the line's end.
+pub fn find_byte(line: &[u8], at: usize, byte: u8) -> usize
     requires { ⌜ at ≤ length (now line) ⌝ }
-    ensures { λ r. ⌜ r ≡ at + run inString (drop at (now (line .entry))) ⌝ }
+    ensures { λ r. ⌜ r ≡ at + run (isOther byte) (drop at (now (line .entry))) ⌝ }
 {
     let mut i = at;
     while i < line.len() {
-        if line[i] == 34 {
+        if line[i] == byte {
             return i;
         }
         i += 1;
@@ -105,7 +105,7 @@ fn string_cut(line: &[u8], at: usize) -> Cut
     requires { ⌜ at < length (now line) ⌝ }
     ensures { λ r. ⌜ cutOf r ≡ stringCut (drop at (now (line .entry))) ⌝ }
 {
-    let end = quote_at(line, at + 1);
+    let end = find_byte(line, at + 1, 34);
     if end < line.len() {
         return Cut::Token(48, end + 1 - at);
     }

@@ -4,6 +4,7 @@ ghost use mathlib.Core.Bool.{true, _||_};
 ghost use mathlib.Core.List.{[], _∷_};
 ghost use Prim.Native.Nat.{_+_, _-_, _*_, _≤_, _<_};
 ghost use lib.ListN.{length, drop, take};
+ghost use lib.Seq.{sets};
 ghost use Rattle.rules.specs.Lists.{run, trimEnd, lastD};
 ghost use Rattle.rules.specs.Tables.{isBlank};
 ghost use Rattle.rules.specs.Line.{isSpace, isTab, indentWidth, indentSize, isBlankLine, isCompared, compared, levelsOf, dedents, cutsFrom, readLine};
@@ -208,6 +209,18 @@ fn levels_of(line: &[u8], s: State, widths: &mut [u32]) -> Compared
     })
 }
 
+// Five words from an index on.
+pub fn put_five(words: &mut [u32], at: usize, a: u32, b: u32, c: u32, d: u32, e: u32)
+    requires { ⌜ at + 5 ≤ length (now words) ⌝ }
+    ensures { λ _. ⌜ now (words .exit) ≡ sets (now (words .entry)) at (a ∷ b ∷ c ∷ d ∷ e ∷ []) ⌝ }
+{
+    words[at] = a;
+    words[at + 1] = b;
+    words[at + 2] = c;
+    words[at + 3] = d;
+    words[at + 4] = e;
+}
+
 // Token record k, where the pass writes: kind, position, length, line, column.
 pub fn put_token(
     tokens: &mut [u32],
@@ -225,12 +238,7 @@ pub fn put_token(
     if !write {
         return;
     }
-    let at = 5 * k;
-    tokens[at] = kind;
-    tokens[at + 1] = position;
-    tokens[at + 2] = size;
-    tokens[at + 3] = number;
-    tokens[at + 4] = column;
+    put_five(tokens, 5 * k, kind, position, size, number, column);
 }
 
 // So many Dedents from record k on, where the pass writes, at this position and line, column 1.
@@ -254,7 +262,7 @@ pub fn put_dedents(
 
 // The depth that a token of this kind leaves.
 fn depth_by(depth: u32, kind: u32) -> u32
-    requires { ⌜ depth ≤ 2_097_152 ⌝ }
+    requires { ⌜ depth ≤ 8_388_608 ⌝ }
     ensures { λ r. ⌜ r ≡ depthBy depth kind ⌝ }
 {
     if kind == 78 {
@@ -296,7 +304,7 @@ pub fn cut_line(
     requires { ⌜ now index ≡ signIndexTable ⌝ }
     requires { ⌜ now signs ≡ signTable ⌝ }
     requires { ⌜ now keywords ≡ keywordTable ⌝ }
-    requires { ⌜ (position + length (now line) ≤ 1_048_576) × ((depth ≤ 1_048_576) × (k ≤ 4_194_304)) ⌝ }
+    requires { ⌜ (position + length (now line) ≤ 1_048_576) × ((depth ≤ 4_194_304) × (k ≤ 4_194_304)) ⌝ }
     requires { ⌜ (write ≡ true → RoomFor (cutsFrom 0 0 (now line)) k (length (now tokens))) ⌝ }
     ensures { λ r. ⌜ r ≡ lineCutsOf depth (cutsFrom 0 0 (now (line .entry))) ⌝ }
     ensures { λ _. ⌜ now (tokens .exit) ≡ putIf write (now (tokens .entry)) (5 * k) (tokenWords position number (tokensOf (cutsFrom 0 0 (now (line .entry))))) ⌝ }
@@ -392,7 +400,7 @@ fn cut_after(
     requires { ⌜ now index ≡ signIndexTable ⌝ }
     requires { ⌜ now signs ≡ signTable ⌝ }
     requires { ⌜ now keywords ≡ keywordTable ⌝ }
-    requires { ⌜ (position + length (now line) ≤ 1_048_576) × ((depth ≤ 1_048_576) × (k ≤ 3_000_000)) ⌝ }
+    requires { ⌜ (position + length (now line) ≤ 1_048_576) × ((depth ≤ 4_194_304) × (k ≤ 3_000_000)) ⌝ }
     requires { ⌜ lead .closes ≤ 16 ⌝ }
     requires { ⌜ (write ≡ true → RoomFor (wholeLine lead (now line) (cutsFrom 0 0 (now line))) k (length (now tokens))) ⌝ }
     ensures { λ r. ⌜ r ≡ lineReadOf lead (lineCutsOf depth (cutsFrom 0 0 (now (line .entry)))) ⌝ }
@@ -459,7 +467,7 @@ pub fn read_line(
     requires { ⌜ now index ≡ signIndexTable ⌝ }
     requires { ⌜ now signs ≡ signTable ⌝ }
     requires { ⌜ now keywords ≡ keywordTable ⌝ }
-    requires { ⌜ (position + length (now line) ≤ 1_048_576) × ((s .depth ≤ 1_048_576) × (k ≤ 3_000_000)) ⌝ }
+    requires { ⌜ (position + length (now line) ≤ 1_048_576) × ((s .depth ≤ 4_194_304) × (k ≤ 3_000_000)) ⌝ }
     requires { ⌜ (length (now widths) ≡ 16) × (s .levels ≤ 16) ⌝ }
     requires { ⌜ (write ≡ true → RoomIn (readLine 16 (stateOf s (now widths)) (now line)) k (length (now tokens))) ⌝ }
     ensures { λ r. ⌜ countedOf r (now (widths .exit)) ≡ counted (readLine 16 (stateOf s (now (widths .entry))) (now (line .entry))) ⌝ }

@@ -18,4 +18,5 @@ pub mod ContractLaws
 pub mod MovedLaws
 pub mod LoopLaws
 pub mod BoundLaws
+pub mod FailureLaws
 pub mod ReportLaws

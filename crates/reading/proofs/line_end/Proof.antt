@@ -1,0 +1,17 @@
+-- `reading::line_end` meets its contract.
+-- Assumes nothing.
+use native.Mathlib.Omega.{arith}
+use Rattle.rules.specs.Reading.{notLF}
+use borrow.Author.Needs.{needs}
+use Rattle.reading.proofs.line_end.Statement.{statement}
+use Rattle.reading.proofs.line_end.Tie as tie
+
+find-byte-requires : tie.Need-find-byte-requires
+find-byte-requires c κs = search needs
+
+returns : tie.Need-returns
+unfolding notLF
+returns c = c .find-byte .ensures
+
+pub line-end-spec : {M : Type 1} → statement M
+line-end-spec = tie.close (tie.spec find-byte-requires returns)

@@ -1,0 +1,130 @@
+// A text read line by line, in passes that count or write.
+ghost use mathlib.Core.Path.{_≡_};
+ghost use mathlib.Core.Bool.{true};
+ghost use mathlib.Core.List.{[], _∷_};
+ghost use Prim.Native.Nat.{_+_, _*_, _≤_, _<_};
+ghost use lib.ListN.{length, getD, take, drop};
+ghost use lib.Seq.{sets};
+ghost use Rattle.rules.specs.Lists.{run};
+ghost use Rattle.rules.specs.Failure.{detailOf, failureRecord};
+ghost use Rattle.rules.specs.Line.{initial};
+ghost use Rattle.rules.specs.Reading.{notLF, linesOf, readFrom};
+ghost use Rattle.rules.specs.Records.{packed, lineRecord};
+ghost use Rattle.spelling.specs.Bytes.{classTable, reachTable};
+ghost use Rattle.spelling.specs.Rows.{keywordTable, signTable, signIndexTable};
+ghost use Rattle.cut.specs.Cuts.{failureOf};
+ghost use Rattle.line.specs.States.{stateOf};
+ghost use Rattle.laws.specs.Puts.{putIf};
+ghost use Rattle.reading.specs.Passes.{recordIn, passOf, linesIn, tokensIn, RoomIn};
+
+// A failure's record.
+pub struct FailureRecord {
+    pub code: u32,
+    pub detail: u32,
+    pub found: u32,
+    pub position: u32,
+    pub line: u32,
+    pub column: u32,
+    pub from: u32,
+    pub to: u32,
+}
+
+// What a pass gives: the numbers of lines and tokens; or the first failure; or the line of a level too many.
+pub enum Pass {
+    Records(usize, usize),
+    Fails(FailureRecord),
+    TooDeep(usize),
+}
+
+// Where the line from `at` on ends: at its LF or at the end of the text.
+pub fn line_end(text: &[u8], at: usize) -> usize
+    requires { ⌜ at ≤ length (now text) ⌝ }
+    ensures { λ r. ⌜ r ≡ at + run notLF (drop at (now (text .entry))) ⌝ }
+{
+    cut::find_byte(text, at, 10)
+}
+
+// The widths of the open levels, and 0 for each other word.
+fn put_widths(lines: &mut [u32], at: usize, widths: &[u32], levels: usize)
+    requires { ⌜ (length (now widths) ≡ 16) × ((levels ≤ 16) × (at + 16 ≤ length (now lines))) ⌝ }
+    ensures { λ _. ⌜ now (lines .exit) ≡ sets (now (lines .entry)) at (packed (take levels (now (widths .entry)))) ⌝ }
+{
+    let mut i: usize = 0;
+    while i < 16 {
+        lines[at + i] = width_at(widths, levels, i);
+        i += 1;
+    }
+}
+
+// The width of level i, 0 past the open ones.
+fn width_at(widths: &[u32], levels: usize, i: usize) -> u32
+    requires { ⌜ (length (now widths) ≡ 16) × ((levels ≤ 16) × (i < 16)) ⌝ }
+    ensures { λ r. ⌜ r ≡ getD (packed (take levels (now (widths .entry)))) i 0 ⌝ }
+{
+    if i < levels {
+        return widths[i];
+    }
+    0
+}
+
+// Line record m, where the pass writes: the start, the first token's number, the state.
+pub fn put_line(
+    lines: &mut [u32],
+    write: bool,
+    m: usize,
+    start: u32,
+    first: u32,
+    s: line::State,
+    widths: &[u32],
+)
+    requires { ⌜ (length (now widths) ≡ 16) × (s .levels ≤ 16) ⌝ }
+    requires { ⌜ (write ≡ true → 21 * m + 21 ≤ length (now lines)) ⌝ }
+    ensures { λ _. ⌜ now (lines .exit) ≡ putIf write (now (lines .entry)) (21 * m) (lineRecord start first (stateOf s (now (widths .entry)))) ⌝ }
+{
+    if !write {
+        return;
+    }
+    let at = 21 * m;
+    line::put_five(
+        lines,
+        at,
+        start,
+        first,
+        s.depth,
+        s.arrow as u32,
+        s.levels as u32,
+    );
+    put_widths(lines, at + 5, widths, s.levels);
+}
+
+// The codes of the details, by number; number 0 is as 1.
+const CODES: [u32; 13] = [1, 1, 2, 4, 101, 1, 1, 1, 1, 1, 1, 1, 1];
+
+// The code of a detail; 0 past the last one.
+fn code_of(detail: u32) -> u32
+    ensures { λ r. ⌜ r ≡ detailOf detail .code ⌝ }
+{
+    if 12 < detail {
+        return 0;
+    }
+    let codes = CODES;
+    codes[detail as usize]
+}
+
+// The record of a failure in the line that starts at `start` and has this number.
+fn failure_record(f: cut::Failure, start: usize, number: usize) -> FailureRecord
+    requires { ⌜ (start + (f .at + f .size) ≤ 1_048_576) × (number ≤ 1_048_577) ⌝ }
+    ensures { λ r. ⌜ r ≡ recordIn (failureRecord start number (failureOf f)) ⌝ }
+{
+    let position = (start + f.at) as u32;
+    FailureRecord {
+        code: code_of(f.detail),
+        detail: f.detail,
+        found: f.found,
+        position: position,
+        line: number as u32,
+        column: f.at as u32 + 1,
+        from: position,
+        to: position + f.size as u32,
+    }
+}
