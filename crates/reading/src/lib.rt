@@ -2,10 +2,11 @@
 ghost use mathlib.Core.Path.{_≡_};
 ghost use mathlib.Core.Bool.{true};
 ghost use mathlib.Core.List.{[], _∷_};
-ghost use Prim.Native.Nat.{_+_, _*_, _≤_, _<_};
+ghost use Prim.Native.Nat.{suc, _+_, _*_, _≤_, _<_};
+ghost use lib.Dec.{ltb};
 ghost use lib.ListN.{length, getD, take, drop};
 ghost use lib.Seq.{sets};
-ghost use Rattle.rules.specs.Lists.{run};
+ghost use Rattle.rules.specs.Lists.{if_then_else_, run};
 ghost use Rattle.rules.specs.Failure.{detailOf, failureRecord};
 ghost use Rattle.rules.specs.Line.{initial};
 ghost use Rattle.rules.specs.Reading.{notLF, linesOf, readFrom};
@@ -127,4 +128,83 @@ fn failure_record(f: cut::Failure, start: usize, number: usize) -> FailureRecord
         from: position,
         to: position + f.size as u32,
     }
+}
+
+// Past the LF that stands at `end`, where one does.
+fn past_lf(text: &[u8], end: usize) -> usize
+    ensures { λ r. ⌜ r ≡ (if ltb end (length (now (text .entry))) then suc end else end) ⌝ }
+{
+    if end < text.len() {
+        return end + 1;
+    }
+    end
+}
+
+// One pass over the lines of a text: it counts, and where it writes, it stores the records.
+pub fn pass_lines(
+    class: &[u8; 256],
+    reach: &[u8; 256],
+    index: &[u8; 256],
+    signs: &[u8; 451],
+    keywords: &[u8; 506],
+    text: &[u8],
+    lines: &mut [u32],
+    tokens: &mut [u32],
+    write: bool,
+    widths: &mut [u32],
+) -> Pass
+    requires { ⌜ now class ≡ classTable ⌝ }
+    requires { ⌜ now reach ≡ reachTable ⌝ }
+    requires { ⌜ now index ≡ signIndexTable ⌝ }
+    requires { ⌜ now signs ≡ signTable ⌝ }
+    requires { ⌜ now keywords ≡ keywordTable ⌝ }
+    requires { ⌜ (length (now text) ≤ 1_048_576) × (length (now widths) ≡ 16) ⌝ }
+    requires { ⌜ (write ≡ true → RoomIn (readFrom 16 initial (linesOf (now text))) (length (now lines)) (length (now tokens))) ⌝ }
+    ensures { λ r. ⌜ r ≡ passOf (readFrom 16 initial (linesOf (now (text .entry)))) ⌝ }
+    ensures { λ _. ⌜ now (lines .exit) ≡ putIf write (now (lines .entry)) 0 (linesIn (readFrom 16 initial (linesOf (now (text .entry))))) ⌝ }
+    ensures { λ _. ⌜ now (tokens .exit) ≡ putIf write (now (tokens .entry)) 0 (tokensIn (readFrom 16 initial (linesOf (now (text .entry))))) ⌝ }
+{
+    let mut p: usize = 0;
+    let mut m: usize = 0;
+    let mut k: usize = 0;
+    let mut s = line::State {
+        depth: 0,
+        arrow: false,
+        levels: 0,
+    };
+    while p < text.len() {
+        put_line(lines, write, m, p as u32, k as u32, s, widths);
+        let end = line_end(text, p);
+        match line::read_line(
+            class,
+            reach,
+            index,
+            signs,
+            keywords,
+            &text[p..end],
+            tokens,
+            write,
+            k,
+            p as u32,
+            m as u32 + 1,
+            widths,
+            s,
+        ) {
+            line::LineRead::Reads(n, next) => {
+                s = next;
+                k += n;
+                m += 1;
+                p = past_lf(text, end);
+            }
+            line::LineRead::Fails(f) => {
+                return Pass::Fails(failure_record(f, p, m + 1));
+            }
+            line::LineRead::TooDeep => {
+                return Pass::TooDeep(m + 1);
+            }
+        }
+    }
+    put_line(lines, write, m, p as u32, k as u32, s, widths);
+    line::put_dedents(tokens, write, k, s.levels, p as u32, m as u32 + 1);
+    Pass::Records(m, k + s.levels)
 }
