@@ -1,3 +1,4 @@
 pub mod Widths
 pub mod Codes
 pub mod Lines
+pub mod Fills

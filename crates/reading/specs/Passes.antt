@@ -1,6 +1,7 @@
 -- What a pass over a text gives and writes.
 -- Assumes nothing.
 use Prim.Native.Nat.{ℕ, suc, _≤_}
+use mathlib.Core.Path.{_≡_}
 use mathlib.Core.List.{List, []}
 use lib.ListN.{length}
 use Rattle.rules.specs.Failure as rules-failure
@@ -43,3 +44,8 @@ tokensIn (halts es h) = []
 abbrev pub RoomIn : Reading → (lines tokens : ℕ) → Type 0
 RoomIn (reads es z) lines tokens = (lineNeed (length es) ≤ lines) × (tokenNeed (tokenSum (withEnd es z)) ≤ tokens)
 RoomIn (halts es h) lines tokens = ⊥
+
+-- the text reads, with so many lines and tokens
+abbrev pub Counted : (m k : ℕ) → Reading → Type 0
+Counted m k (reads es z) = (m ≡ length es) × (k ≡ tokenSum (withEnd es z))
+Counted m k (halts es h) = ⊥

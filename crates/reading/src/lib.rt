@@ -10,13 +10,16 @@ ghost use Rattle.rules.specs.Lists.{if_then_else_, run};
 ghost use Rattle.rules.specs.Failure.{detailOf, failureRecord};
 ghost use Rattle.rules.specs.Line.{initial};
 ghost use Rattle.rules.specs.Reading.{notLF, linesOf, readFrom};
-ghost use Rattle.rules.specs.Records.{packed, lineRecord};
+ghost use Rattle.rules.specs.Records.{packed, lineRecord, readLines};
+ghost use Rattle.rules.specs.Replies.{barge};
+ghost use Rattle.rules.specs.Read.{filledBy, readInto};
 ghost use Rattle.spelling.specs.Bytes.{classTable, reachTable};
 ghost use Rattle.spelling.specs.Rows.{keywordTable, signTable, signIndexTable};
 ghost use Rattle.cut.specs.Cuts.{failureOf};
 ghost use Rattle.line.specs.States.{stateOf};
 ghost use Rattle.laws.specs.Puts.{putIf};
-ghost use Rattle.reading.specs.Passes.{recordIn, passOf, linesIn, tokensIn, RoomIn};
+ghost use Rattle.reading.specs.Passes.{recordIn, passOf, linesIn, tokensIn, RoomIn, Counted};
+ghost use Rattle.reading.specs.Answers.{readNumbers};
 
 // A failure's record.
 pub struct FailureRecord {
@@ -207,4 +210,121 @@ pub fn pass_lines(
     put_line(lines, write, m, p as u32, k as u32, s, widths);
     line::put_dedents(tokens, write, k, s.levels, p as u32, m as u32 + 1);
     Pass::Records(m, k + s.levels)
+}
+
+// The answer of `read`: bytes, lines and tokens; or a refusal, 1 to 4, or 5 for one of the two buffers with its least length.
+pub enum ReadAnswer {
+    Records(usize, usize, usize),
+    TooLong(usize),
+    Malformed(usize),
+    Fails(FailureRecord),
+    TooDeep(usize),
+    ShortLines(usize),
+    ShortTokens(usize),
+}
+
+// The records of a text that was counted, where both buffers hold them.
+fn store_records(
+    class: &[u8; 256],
+    reach: &[u8; 256],
+    index: &[u8; 256],
+    signs: &[u8; 451],
+    keywords: &[u8; 506],
+    text: &[u8],
+    lines: &mut [u32],
+    tokens: &mut [u32],
+    widths: &mut [u32],
+    m: usize,
+    k: usize,
+) -> ReadAnswer
+    requires { ⌜ now class ≡ classTable ⌝ }
+    requires { ⌜ now reach ≡ reachTable ⌝ }
+    requires { ⌜ now index ≡ signIndexTable ⌝ }
+    requires { ⌜ now signs ≡ signTable ⌝ }
+    requires { ⌜ now keywords ≡ keywordTable ⌝ }
+    requires { ⌜ (length (now text) ≤ 1_048_576) × (length (now widths) ≡ 16) ⌝ }
+    requires { ⌜ Counted m k (readFrom 16 initial (linesOf (now text))) ⌝ }
+    ensures { λ r. ⌜ readNumbers r ≡ filledBy (now (lines .entry)) (now (tokens .entry)) (readLines barge (now (text .entry))) .reply ⌝ }
+    ensures { λ _. ⌜ now (lines .exit) ≡ filledBy (now (lines .entry)) (now (tokens .entry)) (readLines barge (now (text .entry))) .lines ⌝ }
+    ensures { λ _. ⌜ now (tokens .exit) ≡ filledBy (now (lines .entry)) (now (tokens .entry)) (readLines barge (now (text .entry))) .tokens ⌝ }
+{
+    if lines.len() < 21 * (m + 1) {
+        return ReadAnswer::ShortLines(21 * (m + 1));
+    }
+    if tokens.len() < 5 * k {
+        return ReadAnswer::ShortTokens(5 * k);
+    }
+    let _ = pass_lines(
+        class,
+        reach,
+        index,
+        signs,
+        keywords,
+        text,
+        lines,
+        tokens,
+        true,
+        widths,
+    );
+    ReadAnswer::Records(text.len(), m, k)
+}
+
+// A text that passed tests 1 and 2: it is counted, then its records are stored.
+fn read_lines(text: &[u8], lines: &mut [u32], tokens: &mut [u32]) -> ReadAnswer
+    requires { ⌜ length (now text) ≤ 1_048_576 ⌝ }
+    ensures { λ r. ⌜ readNumbers r ≡ filledBy (now (lines .entry)) (now (tokens .entry)) (readLines barge (now (text .entry))) .reply ⌝ }
+    ensures { λ _. ⌜ now (lines .exit) ≡ filledBy (now (lines .entry)) (now (tokens .entry)) (readLines barge (now (text .entry))) .lines ⌝ }
+    ensures { λ _. ⌜ now (tokens .exit) ≡ filledBy (now (lines .entry)) (now (tokens .entry)) (readLines barge (now (text .entry))) .tokens ⌝ }
+{
+    let class = spelling::class_table();
+    let reach = spelling::reach_table();
+    let index = spelling::sign_index();
+    let signs = spelling::sign_table();
+    let keywords = spelling::keyword_table();
+    let mut widths: [u32; 16] = [0; 16];
+    match pass_lines(
+        &class,
+        &reach,
+        &index,
+        &signs,
+        &keywords,
+        text,
+        lines,
+        tokens,
+        false,
+        &mut widths,
+    ) {
+        Pass::Records(m, k) => store_records(
+            &class,
+            &reach,
+            &index,
+            &signs,
+            &keywords,
+            text,
+            lines,
+            tokens,
+            &mut widths,
+            m,
+            k,
+        ),
+        Pass::Fails(f) => ReadAnswer::Fails(f),
+        Pass::TooDeep(number) => ReadAnswer::TooDeep(number),
+    }
+}
+
+// A text by itself: its records at the front of the lent buffers, or a refusal that leaves them untouched.
+pub fn read(text: &[u8], lines: &mut [u32], tokens: &mut [u32]) -> ReadAnswer
+    ensures { λ r. ⌜ readNumbers r ≡ readInto (now (text .entry)) (now (lines .entry)) (now (tokens .entry)) .reply ⌝ }
+    ensures { λ _. ⌜ now (lines .exit) ≡ readInto (now (text .entry)) (now (lines .entry)) (now (tokens .entry)) .lines ⌝ }
+    ensures { λ _. ⌜ now (tokens .exit) ≡ readInto (now (text .entry)) (now (lines .entry)) (now (tokens .entry)) .tokens ⌝ }
+{
+    let n = text.len();
+    if 1_048_576 < n {
+        return ReadAnswer::TooLong(n);
+    }
+    let good = utf8::well_formed_prefix(text);
+    if good < n {
+        return ReadAnswer::Malformed(good);
+    }
+    read_lines(text, lines, tokens)
 }
