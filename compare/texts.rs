@@ -1,12 +1,13 @@
 // Holds the proved library against the oracle: one case of `oracle/cases N SEED texts` a line on standard input.
 // For each: the reply and the records with ample buffers, the words past them, the same with buffers that are
-// exactly long enough and one word short, and the byte literal's value. The last line is `N passed, M failed`.
+// exactly long enough and one word short, the message with an ample, an exact and a short buffer, and the byte literal's value. The last line is `N passed, M failed`.
 // The argument is the least number of cases that must have come.
 use std::io::{self, BufRead};
 
 #[link(name = "lexpage", kind = "static")]
 extern "C" {
     fn lexpage_read(text: *const u8, text_len: usize, lines: *mut u32, lines_len: usize, tokens: *mut u32, tokens_len: usize, reply: *mut u64) -> u64;
+    fn lexpage_report(text: *const u8, text_len: usize, out: *mut u8, out_len: usize, reply: *mut u64) -> u64;
     fn lexpage_byte_value(text: *const u8, text_len: usize, reply: *mut u64) -> u64;
 }
 
@@ -33,6 +34,30 @@ fn read(text: &[u8], lines_len: usize, tokens_len: usize) -> Answer {
         lexpage_read(text.as_ptr(), text.len(), lines.as_mut_ptr(), lines_len, tokens.as_mut_ptr(), tokens_len, reply.as_mut_ptr())
     };
     Answer { reply: words(&reply, count), lines, tokens }
+}
+
+fn report(text: &[u8], out_len: usize) -> (Vec<u64>, Vec<u8>) {
+    let mut out = vec![0xAA; out_len];
+    let mut reply = [REPLY_FILL; 16];
+    let count = unsafe { lexpage_report(text.as_ptr(), text.len(), out.as_mut_ptr(), out_len, reply.as_mut_ptr()) };
+    (words(&reply, count), out)
+}
+
+// The message: with room to spare, with just enough, and with one byte too few. A refusal of the text itself is as in `read`.
+fn message_holds(text: &[u8], read: &[u64], message: &[u8]) -> bool {
+    let (reply, out) = report(text, message.len() + 3);
+    let untouched = out[message.len()..].iter().all(|b| *b == 0xAA);
+    if read[0] != 0 && read[0] != 3 {
+        return reply == read && message.is_empty() && untouched;
+    }
+    let told = vec![0, message.len() as u64];
+    let (exact, exact_out) = report(text, message.len());
+    let good = reply == told && out.starts_with(message) && untouched && exact == told && exact_out == message;
+    if message.is_empty() {
+        return good;
+    }
+    let (short, short_out) = report(text, message.len() - 1);
+    good && short == [5, 5, message.len() as u64] && short_out.iter().all(|b| *b == 0xAA)
 }
 
 fn byte_value(text: &[u8]) -> Vec<u64> {
@@ -67,10 +92,11 @@ fn holds(case: &str) -> bool {
     let reply = group(&mut fields);
     let lines = group(&mut fields);
     let tokens = group(&mut fields);
-    let _message = fields.next().unwrap();
+    let message = bytes(fields.next().unwrap());
     let value = group(&mut fields);
     let ample = read(&text, 21 * (text.len() + 2) + 3, 10 * text.len() + 7);
     let mut good = ample.reply == reply && front(&ample.lines, &lines) && front(&ample.tokens, &tokens) && byte_value(&text) == value;
+    good &= message_holds(&text, &reply, &message);
     if reply[0] == 0 {
         let exact = read(&text, lines.len(), tokens.len());
         good &= exact.reply == reply && front(&exact.lines, &lines) && front(&exact.tokens, &tokens);

@@ -8,6 +8,8 @@ ghost use Rattle.rules.specs.Column.{columnReply};
 ghost use Rattle.rules.specs.ByteValue.{valueReply};
 ghost use Rattle.reading.specs.Answers.{failureNumbers, readNumbers};
 ghost use Rattle.queries.specs.Answers.{columnNumbers, valueNumbers};
+ghost use Rattle.rules.specs.Report.{reportInto};
+ghost use Rattle.report.specs.Answers.{reportNumbers};
 
 // Two words.
 fn put_two(reply: &mut [u64; 16], a: u64, b: u64) -> u64
@@ -142,4 +144,28 @@ pub extern "C" fn lexpage_byte_value(text: &[u8], reply: &mut [u64; 16]) -> u64
     ensures { λ _. ⌜ now (reply .exit) ≡ sets (now (reply .entry)) 0 (valueReply (now (text .entry))) ⌝ }
 {
     put_value(reply, queries::ascii_byte_literal_value(text))
+}
+
+// The answer of `report`.
+fn put_report(reply: &mut [u64; 16], r: report::ReportAnswer) -> u64
+    ensures { λ n. ⌜ n ≡ length (reportNumbers r) ⌝ }
+    ensures { λ _. ⌜ now (reply .exit) ≡ sets (now (reply .entry)) 0 (reportNumbers r) ⌝ }
+{
+    match r {
+        report::ReportAnswer::Message(n) => put_two(reply, 0, n as u64),
+        report::ReportAnswer::TooLong(n) => put_two(reply, 1, n as u64),
+        report::ReportAnswer::Malformed(n) => put_two(reply, 2, n as u64),
+        report::ReportAnswer::TooDeep(l) => put_two(reply, 4, l as u64),
+        report::ReportAnswer::ShortOut(n) => put_three(reply, 5, 5, n as u64),
+    }
+}
+
+// The message of a text's failure.
+#[no_mangle]
+pub extern "C" fn lexpage_report(text: &[u8], out: &mut [u8], reply: &mut [u64; 16]) -> u64
+    ensures { λ r. ⌜ r ≡ length (reportInto (now (text .entry)) (now (out .entry)) .reply) ⌝ }
+    ensures { λ _. ⌜ now (reply .exit) ≡ sets (now (reply .entry)) 0 (reportInto (now (text .entry)) (now (out .entry)) .reply) ⌝ }
+    ensures { λ _. ⌜ now (out .exit) ≡ reportInto (now (text .entry)) (now (out .entry)) .out ⌝ }
+{
+    put_report(reply, report::report(text, out))
 }

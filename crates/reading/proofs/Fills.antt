@@ -33,18 +33,18 @@ pass-counted (reads es z) m k e = (cc, cc)
 pass-counted (halts es (failed f)) m k e = let b : _≡_ {A = ℕ} 0 1 = cc in absurd (omega arith)
 pass-counted (halts es overLimit) m k e = let b : _≡_ {A = ℕ} 0 1 = cc in absurd (omega arith)
 
-pass-failed : (x : Reading) (r : FailureRecord) → pass-variants.Fails r ≡ passOf x
+pub pass-failed : (x : Reading) (r : FailureRecord) → pass-variants.Fails r ≡ passOf x
     → (es : List Entry) × (f : rules-failure.Failure) × (x ≡ halts es (failed f)) × (r ≡ recordIn (failureRecord (byteSum es) (suc (length es)) f))
 pass-failed (reads es z) r e = let b : _≡_ {A = ℕ} 0 1 = cc in absurd (omega arith)
 pass-failed (halts es (failed f)) r e = (es, f, refl, cc)
 pass-failed (halts es overLimit) r e = let b : _≡_ {A = ℕ} 0 1 = cc in absurd (omega arith)
 
-pass-deep : (x : Reading) (l : ℕ) → pass-variants.TooDeep l ≡ passOf x → (es : List Entry) × (x ≡ halts es overLimit) × (l ≡ suc (length es))
+pub pass-deep : (x : Reading) (l : ℕ) → pass-variants.TooDeep l ≡ passOf x → (es : List Entry) × (x ≡ halts es overLimit) × (l ≡ suc (length es))
 pass-deep (reads es z) l e = let b : _≡_ {A = ℕ} 0 1 = cc in absurd (omega arith)
 pass-deep (halts es (failed f)) l e = let b : _≡_ {A = ℕ} 0 1 = cc in absurd (omega arith)
 pass-deep (halts es overLimit) l e = (es, refl, cc)
 
-overwritten : (xs l : List ℕ) → length xs ≤ length l → sets l 0 xs ≡ overwrite xs l
+pub overwritten : (xs l : List ℕ) → length xs ≤ length l → sets l 0 xs ≡ overwrite xs l
 unfolding overwrite
 overwritten xs l h = sets-eq xs l 0 (omega arith) ∙ ap (λ (n : ℕ). xs ++ drop n l) (zero-add (length xs))
 

@@ -212,6 +212,33 @@ pub fn pass_lines(
     Pass::Records(m, k + s.levels)
 }
 
+// What a text gives that is read and not stored: a pass that only counts.
+pub fn count_lines(text: &[u8]) -> Pass
+    requires { ⌜ length (now text) ≤ 1_048_576 ⌝ }
+    ensures { λ r. ⌜ r ≡ passOf (readFrom 16 initial (linesOf (now (text .entry)))) ⌝ }
+{
+    let class = spelling::class_table();
+    let reach = spelling::reach_table();
+    let index = spelling::sign_index();
+    let signs = spelling::sign_table();
+    let keywords = spelling::keyword_table();
+    let mut lines: [u32; 1] = [0];
+    let mut tokens: [u32; 1] = [0];
+    let mut widths: [u32; 16] = [0; 16];
+    pass_lines(
+        &class,
+        &reach,
+        &index,
+        &signs,
+        &keywords,
+        text,
+        &mut lines,
+        &mut tokens,
+        false,
+        &mut widths,
+    )
+}
+
 // The answer of `read`: bytes, lines and tokens; or a refusal, 1 to 4, or 5 for one of the two buffers with its least length.
 pub enum ReadAnswer {
     Records(usize, usize, usize),

@@ -166,3 +166,124 @@ encode-value (b ∷ s) n e =
     ) in
     let v : encode (sixBits (firstBits (suc n) b) (take n s)) ≡ b ∷ take n s = rw (l .count) at (d (l .fit)) in
     rw e v
+
+-- Values are below 0x110000, where the bytes are bytes.
+
+-- each is a byte
+abbrev pub Bytes : List ℕ → Type 0
+Bytes [] = Unit {0}
+Bytes (b ∷ s) = (b < 256) × Bytes s
+
+abbrev SmallBy : ℕ → List ℕ → List Range → Type 0
+SmallBy b s rs = inRanges rs s ≡ true → sixBits (firstBits (suc (length rs)) b) (take (length rs) s) < 1_114_112
+
+module _ (b : ℕ) where
+  small-1 : (s : List ℕ) → b ≤ 0x7F → SmallBy b s []
+  unfolding sixBits firstBits
+  small-1 s hb h = omega arith
+
+  small-2 : (s : List ℕ) (r : Range) → b ≤ 0xDF → r .hi ≤ 0xBF → SmallBy b s (r ∷ [])
+  unfolding sixBits firstBits inRanges
+  small-2 [] r hb hh h = absurd (false≢true h)
+  small-2 (c ∷ s) r hb hh h = let x = ranged r [] c s h .0 in omega (arith, x .high)
+
+  small-3 : (s : List ℕ) (r q : Range) → b ≤ 0xEF → r .hi ≤ 0xBF → q .hi ≤ 0xBF → SmallBy b s (r ∷ q ∷ [])
+  unfolding sixBits firstBits inRanges
+  small-3 [] r q hb hh kh h = absurd (false≢true h)
+  small-3 (c ∷ []) r q hb hh kh h = absurd (false≢true (and-right (within (r .lo) (r .hi) c) false h))
+  small-3 (c ∷ d ∷ s) r q hb hh kh h =
+      let x = ranged r (q ∷ []) c (d ∷ s) h in
+      let y = ranged q [] d s (x .1) in
+      omega (arith, x .0 .high, y .0 .high)
+
+  small-4 : (s : List ℕ) (r q p : Range) → (b - 0xF0) * 64 + (r .hi - 0x80) < 0x110 → q .hi ≤ 0xBF → p .hi ≤ 0xBF → SmallBy b s (r ∷ q ∷ p ∷ [])
+  unfolding sixBits firstBits inRanges
+  small-4 [] r q p v kh mh h = absurd (false≢true h)
+  small-4 (c ∷ []) r q p v kh mh h = absurd (false≢true (and-right (within (r .lo) (r .hi) c) false h))
+  small-4 (c ∷ d ∷ []) r q p v kh mh h =
+      absurd (false≢true (and-right (within (q .lo) (q .hi) d) false (and-right (within (r .lo) (r .hi) c) _ h)))
+  small-4 (c ∷ d ∷ e ∷ s) r q p v kh mh h =
+      let x = ranged r (q ∷ p ∷ []) c (d ∷ e ∷ s) h in
+      let y = ranged q (p ∷ []) d (e ∷ s) (x .1) in
+      let z = ranged p [] e s (y .1) in
+      omega (arith, x .0 .high, y .0 .high, z .0 .high)
+
+row-small : (b : ℕ) (s : List ℕ) (n : ℕ) → scalarSize (b ∷ s) ≡ suc n → sixBits (firstBits (suc n) b) (take n s) < 1_114_112
+unfolding table
+row-small b s n e =
+    let l = later b s n e in
+    let d : SmallBy b s (l .ranges) = by-row (SmallBy b s) table b (l .ranges) (l .row) (
+      λ h k. small-1 b s k,
+      (
+        λ h k. small-2 b s _ k (omega arith),
+        (
+          λ h k. small-3 b s _ _ (omega arith) (omega arith) (omega arith),
+          (
+            λ h k. small-3 b s _ _ (omega arith) (omega arith) (omega arith),
+            (
+              λ h k. small-3 b s _ _ (omega arith) (omega arith) (omega arith),
+              (
+                λ h k. small-3 b s _ _ (omega arith) (omega arith) (omega arith),
+                (
+                  λ h k. small-4 b s _ _ _ (omega arith) (omega arith) (omega arith),
+                  (λ h k. small-4 b s _ _ _ (omega arith) (omega arith) (omega arith), (λ h k. small-4 b s _ _ _ (omega arith) (omega arith) (omega arith), tt)),
+                ),
+              ),
+            ),
+          ),
+        ),
+      ),
+    ) in
+    rw (l .count) at (d (l .fit))
+
+pub value-small : (b : ℕ) (s : List ℕ) → b < 256 → scalarValue (b ∷ s) < 1_114_112
+unfolding scalarValue sixBits firstBits
+value-small b s h = go (scalarSize (b ∷ s)) refl
+  where
+    go : (n : ℕ) → scalarSize (b ∷ s) ≡ n → sixBits (firstBits n b) (take (pred n) s) < 1_114_112
+    go zero e = omega arith
+    go (suc n) e = row-small b s n e
+
+-- A scalar's bytes are bytes.
+
+abbrev RangesLow : List Range → Type 0
+RangesLow [] = Unit {0}
+RangesLow (r ∷ rs) = (r .hi < 256) × RangesLow rs
+
+ranges-bytes : (rs : List Range) (s : List ℕ) → RangesLow rs → inRanges rs s ≡ true → Bytes (take (length rs) s)
+ranges-bytes [] [] l h = tt
+ranges-bytes [] (b ∷ s) l h = tt
+ranges-bytes (r ∷ rs) [] l h = tt
+ranges-bytes (r ∷ rs) (b ∷ s) l h =
+    let x = ranged r rs b s h in
+    (omega (arith, x .0 .high, l .0), ranges-bytes rs s (l .1) (x .1))
+
+pub scalar-bytes : (b : ℕ) (s : List ℕ) (n : ℕ) → scalarSize (b ∷ s) ≡ suc n → (b < 256) × Bytes (take n s)
+unfolding table
+scalar-bytes b s n e =
+    let l = later b s n e in
+    let one : (0xBF < 256) = omega arith in
+    let d : (b < 256) × RangesLow (l .ranges) = by-row (λ rs. (b < 256) × RangesLow rs) table b (l .ranges) (l .row) (
+      λ h k. (omega arith, tt),
+      (
+        λ h k. (omega arith, (one, tt)),
+        (
+          λ h k. (omega arith, (one, (one, tt))),
+          (
+            λ h k. (omega arith, (one, (one, tt))),
+            (
+              λ h k. (omega arith, (omega arith, (one, tt))),
+              (
+                λ h k. (omega arith, (one, (one, tt))),
+                (
+                  λ h k. (omega arith, (one, (one, (one, tt)))),
+                  (λ h k. (omega arith, (one, (one, (one, tt)))), (λ h k. (omega arith, (omega arith, (one, (one, tt)))), tt)),
+                ),
+              ),
+            ),
+          ),
+        ),
+      ),
+    ) in
+    let v : Bytes (take n s) = rw (l .count) at (ranges-bytes (l .ranges) s (d .1) (l .fit)) in
+    (d .0, v)
