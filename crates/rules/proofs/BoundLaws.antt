@@ -396,6 +396,30 @@ fresh-small t r ht h = rw (b .records-are) (go (b .entries) (b .end) (b .reads-a
           tokens = all-token-words wordMax 0 1 (withEnd es z) (omega arith) oe (omega (arith, s .1)) (omega (arith, s .0));
         }
 
+-- A reading from any state that has come to byte p: lines, tokens with the levels left open, and depth grow with the bytes.
+pub record GrownTo (s : State) (p : ℕ) (es : List Entry) (z : State) : Type 0 where
+  pub lines : length es ≤ p
+  pub tokens : tokenSum es + length (z .widths) ≤ length (s .widths) + 2 * p
+  pub depth : z .depth ≤ s .depth + p
+
+depth-grows : (limit : ℕ) (s : State) (ls : List Line) (es : List Entry) (z : State) → readFrom limit s ls ≡ reads es z → z .depth ≤ s .depth + total ls
+unfolding readFrom
+depth-grows limit s [] es z h =
+    let d : s ≡ z = cc in
+    rw (← d) (omega arith)
+depth-grows limit s (l ∷ ls) es z h =
+    let st = step limit s l (readLine limit s (content l)) (λ y. readFrom limit y ls) es z h in
+    omega (arith, line-ok limit s (content l) (st .ts) (st .mid) (st .line-is) .depth, content-le l, depth-grows limit (st .mid) ls (st .rest) z (st .rest-is))
+
+pub read-grown : (limit : ℕ) (s : State) (t : List ℕ) (p : ℕ) (es : List Entry) (z : State) → ReadTo limit s t p es z → GrownTo s p es z
+read-grown limit s t p es z r =
+    let n = read-sizes limit s (r .lines) es z (r .reads-are) in
+    let ne : Nonempty (r .lines) = nonempty-front (r .lines) (linesOf (drop p t)) (lines-nonempty t (r .lines ++ linesOf (drop p t)) (r .split)) in
+    let c = count-le limit s (r .lines) es z ne (r .reads-are) in
+    let d = depth-grows limit s (r .lines) es z (r .reads-are) in
+    let m = nonempty-le (r .lines) ne in
+    record { lines = omega (arith, n .0, n .1, r .bytes); tokens = omega (arith, n .1, r .bytes); depth = omega (arith, n .1, r .bytes) }
+
 -- A reading that has come to byte p of a text within the limit: what a loop has so far is small.
 pub record SmallAt (p : ℕ) (es : List Entry) (z : State) : Type 0 where
   pub lines : length es ≤ p
@@ -406,8 +430,7 @@ pub record SmallAt (p : ℕ) (es : List Entry) (z : State) : Type 0 where
 pub read-small : (t : List ℕ) (p : ℕ) (es : List Entry) (z : State) → length t ≤ maxBytes → p ≤ length t → ReadTo maxLevels initial t p es z → SmallAt p es z
 read-small t p es z ht hp r =
     let n = read-sizes maxLevels initial (r .lines) es z (r .reads-are) in
-    let ne : Nonempty (r .lines) = nonempty-front (r .lines) (linesOf (drop p t)) (lines-nonempty t (r .lines ++ linesOf (drop p t)) (r .split)) in
-    let c : tokenSum es + length (z .widths) ≤ 0 + 2 * total (r .lines) = count-le maxLevels initial (r .lines) es z ne (r .reads-are) in
-    let m : length (r .lines) ≤ total (r .lines) = nonempty-le (r .lines) ne in
+    let g = read-grown maxLevels initial t p es z r in
     let o = entries-ok maxLevels wordMax initial (r .lines) es z (r .reads-are) zero-le tt (omega (arith, n .1, r .bytes)) in
-    record { lines = omega (arith, n .0, n .1, r .bytes); tokens = omega (arith, n .1, r .bytes); entries = o .0; state = o .1 }
+    let c : tokenSum es + length (z .widths) ≤ 0 + 2 * p = g .tokens in
+    record { lines = g .lines; tokens = omega (arith, c); entries = o .0; state = o .1 }

@@ -226,7 +226,7 @@ module _ (t : List ℕ) (old : List Entry) (end : State) (h : readFrom maxLevels
 
 -- The records at a stop: those of the old lines before line i, those of the new lines, and those of the old lines from j on, moved.
 
-with-end : (old new : List Entry) (end : State) (i j : ℕ) → j ≤ length old
+pub with-end : (old new : List Entry) (end : State) (i j : ℕ) → j ≤ length old
     → withEnd (take i old ++ (new ++ drop j old)) end ≡ take i old ++ (new ++ drop j (withEnd old end))
 with-end old new end i j hj =
     append-assoc (take i old) (new ++ drop j old) (endEntry end ∷ [])

@@ -56,7 +56,7 @@ sameState-refl s = rw (eq-eqb (s .depth) (s .depth) refl, beq-refl (s .arrow)) (
 
 -- States with no more levels than a line record holds: equal words are equal states.
 
-unpacked : (ws : List ℕ) → length ws ≤ maxLevels → take (length ws) (packed ws) ≡ ws
+pub unpacked : (ws : List ℕ) → length ws ≤ maxLevels → take (length ws) (packed ws) ≡ ws
 unfolding packed
 unpacked ws h = take-take (length ws) widthWords (ws ++ replicate widthWords 0) h ∙ take-at ws (replicate widthWords 0) (length ws) refl
 
