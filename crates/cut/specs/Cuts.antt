@@ -26,7 +26,10 @@ cutOf (Fails f) = rules-cut.Cut.fails (failureOf f)
 abbrev pub numberOf : Number → rules-cut.Number
 numberOf n = record { digits = n .digits; suffix = n .suffix }
 
--- a byte other than this one
+-- this byte, and another one
+abbrev pub isByte : (byte b : ℕ) → Bool
+isByte byte b = eqb b byte
+
 abbrev pub isOther : (byte b : ℕ) → Bool
 isOther byte b = not (eqb b byte)
 

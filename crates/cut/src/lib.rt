@@ -28,8 +28,9 @@ ghost use Rattle.rules.specs.Cut.{
   cut,
 };
 ghost use Rattle.spelling.specs.Bytes.{classTable, reachTable};
+ghost use Rattle.spelling.specs.Masks.{maskOf};
 ghost use Rattle.spelling.specs.Rows.{keywordTable, signTable, signIndexTable};
-ghost use Rattle.cut.specs.Cuts.{cutOf, cutNamed, numberOf, anySign, commentOr, isOther};
+ghost use Rattle.cut.specs.Cuts.{cutOf, cutNamed, numberOf, anySign, commentOr, isByte, isOther};
 
 // A failure of the rest of a line: its detail, the scalar that the detail shows, its offset and its range's length.
 pub struct Failure {
@@ -85,8 +86,31 @@ pub fn trimmed_end(line: &[u8]) -> usize
     0
 }
 
-// The first such byte of the line from `at` on, or the line's end.
-pub fn find_byte(line: &[u8], at: usize, byte: u8) -> usize
+// Which of the four bytes from `at` on are this one: bit j is set for byte j.
+fn equal_four(line: &[u8], at: usize, byte: u8) -> u32
+    requires { ⌜ at + 4 ≤ length (now line) ⌝ }
+    ensures { λ r. ⌜ r ≡ maskOf (isByte byte) 4 (drop at (now (line .entry))) ⌝ }
+{
+    (line[at] == byte) as u32
+        + 2 * (line[at + 1] == byte) as u32
+        + 4 * (line[at + 2] == byte) as u32
+        + 8 * (line[at + 3] == byte) as u32
+}
+
+// The same of sixteen bytes; in this form it is compiled to a comparison of vectors.
+fn equal_mask(line: &[u8], at: usize, byte: u8) -> u32
+    requires { ⌜ at + 16 ≤ length (now line) ⌝ }
+    ensures { λ r. ⌜ r ≡ maskOf (isByte byte) 16 (drop at (now (line .entry))) ⌝ }
+{
+    let a = equal_four(line, at, byte);
+    let b = equal_four(line, at + 4, byte);
+    let c = equal_four(line, at + 8, byte);
+    let d = equal_four(line, at + 12, byte);
+    a + 16 * b + 256 * c + 4096 * d
+}
+
+// The first such byte of the line from `at` on, or the line's end, byte by byte.
+fn find_by_bytes(line: &[u8], at: usize, byte: u8) -> usize
     requires { ⌜ at ≤ length (now line) ⌝ }
     ensures { λ r. ⌜ r ≡ at + run (isOther byte) (drop at (now (line .entry))) ⌝ }
 {
@@ -98,6 +122,22 @@ pub fn find_byte(line: &[u8], at: usize, byte: u8) -> usize
         i += 1;
     }
     i
+}
+
+// The same, sixteen bytes a turn.
+pub fn find_byte(line: &[u8], at: usize, byte: u8) -> usize
+    requires { ⌜ at ≤ length (now line) ⌝ }
+    ensures { λ r. ⌜ r ≡ at + run (isOther byte) (drop at (now (line .entry))) ⌝ }
+{
+    let mut i = at;
+    while 16 <= line.len() - i {
+        let mask = equal_mask(line, i, byte);
+        if mask != 0 {
+            return i + u32::trailing_zeros(mask) as usize;
+        }
+        i += 16;
+    }
+    find_by_bytes(line, i, byte)
 }
 
 // A string: to the next quote; otherwise a failure up to the line's end less its trailing CRs.

@@ -46,7 +46,7 @@ find-starting (b ∷ s) h ks = find-only _ (b ∷ s) (λ k e. starts-with b (k .
 
 -- Words.
 
-same-begins : (p w : List ℕ) → length p ≡ length w → same p w ≡ begins p w
+pub same-begins : (p w : List ℕ) → length p ≡ length w → same p w ≡ begins p w
 unfolding same begins
 same-begins [] [] e = refl
 same-begins [] (y ∷ w) e = absurd (omega arith)

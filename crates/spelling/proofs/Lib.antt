@@ -1,3 +1,4 @@
+pub mod MaskLaws
 pub mod ReachLaws
 pub mod SearchLaws
 pub mod GroupLaws

@@ -3,18 +3,39 @@
 use Prim.Native.Nat.{ℕ, _+_, _≤_, _<_}
 use Prim.Native.Char.{code}
 use mathlib.Core.Path.{_≡_, refl, sym, ap, _∙_, fun-ext}
-use mathlib.Core.Bool.{Bool, true, false, _||_}
+use mathlib.Core.Bool.{Bool, true, false, _||_, not}
 use mathlib.Core.List.{List}
 use native.Mathlib.Omega.{arith}
-use lib.Dec.{leb, eqb}
+use lib.Dec.{ltb, leb, eqb}
 use lib.ListN.{length, getD, drop, length-drop}
-use borrow.Author.Tests.{leb-true, le-leb, lt-leb}
+use borrow.Author.Tests.{leb-true, leb-false, lt-ltb, le-ltb, le-leb, lt-leb}
+use mir.Val.{boolByte}
 use Rattle.laws.proofs.Below.{entry}
-use Rattle.rules.specs.Lists.{if_then_else_, within, run}
+use Rattle.rules.specs.Lists.{if_then_else_, bit, within, run}
 use Rattle.rules.specs.Tables.{isDigit, isLetter, isHexDigit}
 use Rattle.rules.specs.Cut.{inDecimal, inHex, inWord}
 use Rattle.rules.proofs.ListLaws.{or-by, or-left, or-right, and-true, run-pass, run-stop, run-le}
-use Rattle.spelling.specs.Bytes.{reachOf, reachTable, reaches}
+use Rattle.spelling.specs.Bytes.{reachOf, reachTable, reaches, misses}
+use Rattle.spelling.proofs.MaskLaws.{as-bit}
+
+-- the table's answer for one byte, as a bit
+below-not : (a b : ℕ) → ltb a b ≡ not (leb b a)
+below-not a b = go (leb b a) refl
+  where
+    go : (t : Bool) → leb b a ≡ t → ltb a b ≡ not t
+    go true e = le-ltb a b (leb-true b a e)
+    go false e = lt-ltb a b (leb-false b a e)
+
+pub miss-bit : (least b : ℕ) {t : List ℕ} → t ≡ reachTable → b < 256 → boolByte (ltb (getD t b 0) least) ≡ bit (misses least b)
+unfolding reachTable reaches
+miss-bit least b e h = rw (e, entry reachOf 256 b 0 h) (as-bit (ltb (reachOf b) least) ∙ ap bit (below-not (reachOf b) least))
+
+pub missed : (least b : ℕ) → reaches least b ≡ not (misses least b)
+missed least b = go (reaches least b)
+  where
+    go : (t : Bool) → t ≡ not (not t)
+    go true = refl
+    go false = refl
 
 -- A turn at byte i of a line, by the table t; `whole` is where the run ends.
 

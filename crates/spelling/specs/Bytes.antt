@@ -1,7 +1,7 @@
 -- The class of each byte, and the runs that it stands in, as tables.
 -- Assumes nothing.
 use Prim.Native.Nat.{ℕ}
-use mathlib.Core.Bool.{Bool}
+use mathlib.Core.Bool.{Bool, not}
 use mathlib.Core.List.{List}
 use lib.Dec.{leb}
 use Rattle.laws.specs.Blocks.{table}
@@ -23,3 +23,6 @@ reachTable = table reachOf 0 256
 -- a byte of a run that takes this reach and every larger one
 unfoldable pub reaches : (least b : ℕ) → Bool
 reaches least b = leb least (reachOf b)
+
+abbrev pub misses : (least b : ℕ) → Bool
+misses least b = not (reaches least b)

@@ -2,9 +2,10 @@
 ghost use mathlib.Core.Path.{_≡_};
 ghost use Prim.Native.Nat.{ℕ, _+_, _-_, _*_, _≤_, _<_};
 ghost use lib.ListN.{length, getD, drop};
-ghost use Rattle.rules.specs.Lists.{run};
+ghost use Rattle.rules.specs.Lists.{bit, run};
 ghost use Rattle.rules.specs.Tables.{classOf, keywords, signs, wordKind};
-ghost use Rattle.spelling.specs.Bytes.{classTable, reachTable, reaches};
+ghost use Rattle.spelling.specs.Bytes.{classTable, reachTable, reaches, misses};
+ghost use Rattle.spelling.specs.Masks.{maskOf};
 ghost use Rattle.spelling.specs.Rows.{
   rowsFrom,
   findIn,
@@ -74,9 +75,29 @@ pub fn reach_table() -> [u8; 256]
     REACH
 }
 
-// Where the run from `at` on ends, at a byte that reaches less than `least` or at the line's end.
-// `least` is 1 for a word, 2 for hexadecimal and 3 for decimal digits.
-pub fn run_end(table: &[u8; 256], line: &[u8], at: usize, least: u8) -> usize
+// 1 where a byte reaches less than `least`, otherwise 0.
+fn miss(table: &[u8; 256], b: u8, least: u8) -> u32
+    requires { ⌜ now table ≡ reachTable ⌝ }
+    ensures { λ r. ⌜ r ≡ bit (misses least b) ⌝ }
+{
+    (table[b as usize] < least) as u32
+}
+
+// Which of the four bytes from `at` on reach less than `least`: bit j is set for byte j.
+fn miss_mask(table: &[u8; 256], line: &[u8], at: usize, least: u8) -> u32
+    requires { ⌜ now table ≡ reachTable ⌝ }
+    requires { ⌜ at + 4 ≤ length (now line) ⌝ }
+    ensures { λ r. ⌜ r ≡ maskOf (misses least) 4 (drop at (now (line .entry))) ⌝ }
+{
+    let a = miss(table, line[at], least);
+    let b = miss(table, line[at + 1], least);
+    let c = miss(table, line[at + 2], least);
+    let d = miss(table, line[at + 3], least);
+    a + 2 * b + 4 * c + 8 * d
+}
+
+// Where the run from `at` on ends, byte by byte: at a byte that reaches less than `least` or at the line's end.
+fn run_by_bytes(table: &[u8; 256], line: &[u8], at: usize, least: u8) -> usize
     requires { ⌜ now table ≡ reachTable ⌝ }
     requires { ⌜ at ≤ length (now line) ⌝ }
     ensures { λ r. ⌜ r ≡ at + run (reaches least) (drop at (now (line .entry))) ⌝ }
@@ -90,6 +111,24 @@ pub fn run_end(table: &[u8; 256], line: &[u8], at: usize, least: u8) -> usize
         i += 1;
     }
     i
+}
+
+// The same, four bytes a turn: a run's length is hard to foretell, and a mask finds its end without a branch at each byte.
+// `least` is 1 for a word, 2 for hexadecimal and 3 for decimal digits.
+pub fn run_end(table: &[u8; 256], line: &[u8], at: usize, least: u8) -> usize
+    requires { ⌜ now table ≡ reachTable ⌝ }
+    requires { ⌜ at ≤ length (now line) ⌝ }
+    ensures { λ r. ⌜ r ≡ at + run (reaches least) (drop at (now (line .entry))) ⌝ }
+{
+    let mut i = at;
+    while 4 <= line.len() - i {
+        let mask = miss_mask(table, line, i, least);
+        if mask != 0 {
+            return i + u32::trailing_zeros(mask) as usize;
+        }
+        i += 4;
+    }
+    run_by_bytes(table, line, i, least)
 }
 
 // A spelling that was found, its kind and its length; or none.

@@ -1,14 +1,14 @@
 -- `cut::find_byte` meets its contract. What is left gives the whole run.
 -- Assumes nothing.
-use Prim.Native.Nat.{ℕ, _+_, _-_, _≤_, _<_}
-use mathlib.Core.Path.{_≡_, refl, sym, ap, _∙_}
-use mathlib.Core.Bool.{not}
+use Prim.Native.Nat.{_+_, _-_, _≤_}
+use mathlib.Core.Path.{_≡_, refl, _∙_}
 use native.Mathlib.Omega.{arith}
-use lib.ListN.{length, drop, getD}
-use borrow.Author.Tests.{eq-eqb, ne-eqb}
+use lib.Count.{trailingZeros, trailing-le}
+use lib.ListN.{length, drop}
 use Rattle.rules.specs.Lists.{run}
-use Rattle.cut.specs.Cuts.{isOther}
-use Rattle.rules.proofs.ListLaws.{run-pass, run-stop, run-end}
+use Rattle.spelling.proofs.MaskLaws.{run-found, run-left}
+use Rattle.spelling.proofs.ReachLaws.{run-inside}
+use Rattle.cut.specs.Cuts.{isByte, isOther}
 use Rattle.cut.proofs.find_byte.Statement.{statement}
 use Rattle.cut.proofs.find_byte.Tie as tie
 
@@ -21,16 +21,31 @@ abbrev μ-loop : tie.MeasureT-loop
 loop-holds : tie.Need-loop-holds Inv-loop μ-loop
 loop-holds c = (omega arith, refl)
 
-shared-slice-read-if1 : tie.Need-shared-slice-read-if1 Inv-loop μ-loop
-shared-slice-read-if1 c = omega arith
+sub-loop : tie.Need-sub-loop Inv-loop μ-loop
+sub-loop c = omega arith
+
+equal-mask-requires : tie.Need-equal-mask-requires Inv-loop μ-loop
+equal-mask-requires c κs = omega arith
+
+-- the run ends at the lowest bit of the mask
+found : (c : tie.Then1 Inv-loop μ-loop) → let a = c .before .before .before .before .before .args in
+    c .before .before .before .loop .i + trailingZeros 32 (c .before .equal-mask .result) ≡ a .at + run (isOther (a .byte)) (drop (a .at) (a .line .now))
+found c =
+    let l = c .before .before .before in
+    let a = l .before .before .args in
+    run-found (isByte (a .byte)) (isOther (a .byte)) (λ x. refl) (a .line .now) (l .loop .i) 16 (c .before .equal-mask .ensures) (l .loop .inv .1) (omega arith) (c .if1 .taken)
+
+cast-result : tie.Need-cast-result Inv-loop μ-loop
+cast-result c = omega (arith, trailing-le 32 (c .before .equal-mask .result))
+
+add-result : tie.Need-add-result Inv-loop μ-loop
+add-result c =
+    let s = c .before .before .before .before .before in
+    let a = s .args in
+    omega (arith, found c, run-inside (isOther (a .byte)) (a .line .now) (a .at) (s .pre))
 
 returns : tie.Need-returns Inv-loop μ-loop
-returns c =
-    let b = c .before .before .before in
-    let l = b .before .args .line .now in
-    let byte = b .before .args .byte in
-    let e = run-stop (isOther byte) l (b .loop .i) (omega arith) (ap not (eq-eqb (getD l (b .loop .i) 0) byte (c .if1 .taken))) in
-    omega arith
+returns c = found c
 
 add-i : tie.Need-add-i Inv-loop μ-loop
 add-i c = omega arith
@@ -40,16 +55,15 @@ loop-less c = omega arith
 
 loop-again : tie.Need-loop-again Inv-loop μ-loop
 loop-again c =
-    let b = c .before .before .before in
-    let l = b .before .args .line .now in
-    let byte = b .before .args .byte in
-    let e = run-pass (isOther byte) l (b .loop .i) (omega arith) (ap not (ne-eqb (getD l (b .loop .i) 0) byte (c .if1 .left))) in
-    omega arith
+    let l = c .before .before .before in
+    let a = l .before .before .args in
+    (omega arith, run-left (isByte (a .byte)) (isOther (a .byte)) (λ x. refl) (a .line .now) (l .loop .i) 16 (c .before .equal-mask .ensures) (l .loop .inv .1) (omega arith) (c .if1 .left))
+
+find-by-bytes-requires : tie.Need-find-by-bytes-requires Inv-loop μ-loop
+find-by-bytes-requires c κs = omega arith
 
 returns-2 : tie.Need-returns-2 Inv-loop μ-loop
-returns-2 c =
-    let e = run-end (isOther (c .before .before .args .byte)) (c .before .before .args .line .now) (c .before .loop .i) (c .loop-test .left) in
-    omega arith
+returns-2 c = c .find-by-bytes .ensures ∙ c .before .before .loop .inv .1
 
 pub find-byte-spec : {M : Type 1} → statement M
 find-byte-spec =
@@ -58,9 +72,13 @@ find-byte-spec =
     Inv-loop
     μ-loop
     loop-holds
-    shared-slice-read-if1
+    sub-loop
+    equal-mask-requires
+    cast-result
+    add-result
     returns
     add-i
     loop-less
     loop-again
+    find-by-bytes-requires
     returns-2)

@@ -1,13 +1,14 @@
 -- `spelling::run_end` meets its contract. What is left of the line, from i on, ends its run where the whole does.
 -- Assumes nothing.
 use Prim.Native.Nat.{_+_, _-_, _≤_}
-use mathlib.Core.Path.{_≡_, refl}
+use mathlib.Core.Path.{_≡_, refl, sym, _∙_}
 use native.Mathlib.Omega.{arith}
+use lib.Count.{trailingZeros, trailing-le}
 use lib.ListN.{length, drop}
 use Rattle.rules.specs.Lists.{run}
-use Rattle.rules.proofs.ListLaws.{run-end}
-use Rattle.spelling.specs.Bytes.{reaches}
-use Rattle.spelling.proofs.ReachLaws.{run-stops, run-goes}
+use Rattle.spelling.specs.Bytes.{reaches, misses}
+use Rattle.spelling.proofs.MaskLaws.{run-found, run-left}
+use Rattle.spelling.proofs.ReachLaws.{missed, run-inside}
 use Rattle.spelling.proofs.run_end.Statement.{statement}
 use Rattle.spelling.proofs.run_end.Tie as tie
 
@@ -20,22 +21,31 @@ abbrev μ-loop : tie.MeasureT-loop
 loop-holds : tie.Need-loop-holds Inv-loop μ-loop
 loop-holds c = (omega arith, refl)
 
-shared-slice-read-b : tie.Need-shared-slice-read-b Inv-loop μ-loop
-shared-slice-read-b c = omega arith
+sub-loop : tie.Need-sub-loop Inv-loop μ-loop
+sub-loop c = omega arith
 
-cast-if1 : tie.Need-cast-if1 Inv-loop μ-loop
-cast-if1 c = omega (arith, c .shared-slice-known .given (c .before .before .loop .i))
+miss-mask-requires : tie.Need-miss-mask-requires Inv-loop μ-loop
+miss-mask-requires c κs = (c .before .before .before .pre .0, omega arith)
 
-element-copy-out-if1 : tie.Need-element-copy-out-if1 Inv-loop μ-loop
-element-copy-out-if1 c = omega (arith, c .shared-slice-known .given (c .before .before .loop .i))
+-- the run ends at the lowest bit of the mask
+found : (c : tie.Then1 Inv-loop μ-loop) → let a = c .before .before .before .before .before .args in
+    c .before .before .before .loop .i + trailingZeros 32 (c .before .miss-mask .result) ≡ a .at + run (reaches (a .least)) (drop (a .at) (a .line .now))
+found c =
+    let l = c .before .before .before in
+    let a = l .before .before .args in
+    run-found (misses (a .least)) (reaches (a .least)) (missed (a .least)) (a .line .now) (l .loop .i) 4 (c .before .miss-mask .ensures) (l .loop .inv .1) (omega arith) (c .if1 .taken)
+
+cast-result : tie.Need-cast-result Inv-loop μ-loop
+cast-result c = omega (arith, trailing-le 32 (c .before .miss-mask .result))
+
+add-result : tie.Need-add-result Inv-loop μ-loop
+add-result c =
+    let s = c .before .before .before .before .before in
+    let a = s .args in
+    omega (arith, found c, run-inside (reaches (a .least)) (a .line .now) (a .at) (s .pre .1))
 
 returns : tie.Need-returns Inv-loop μ-loop
-returns c =
-    let l = c .before .before .before .before in
-    run-stops _ _ _ (l .before .pre .0) (c .before .before .before .loop-test .taken)
-    (omega (arith, c .before .before .shared-slice-known .given (l .loop .i)))
-    (l .loop .inv .1)
-    (c .if1 .taken)
+returns c = found c
 
 add-i : tie.Need-add-i Inv-loop μ-loop
 add-i c = omega arith
@@ -45,13 +55,15 @@ loop-less c = omega arith
 
 loop-again : tie.Need-loop-again Inv-loop μ-loop
 loop-again c =
-    let l = c .before .before .before .before in
-    (omega arith, run-goes _ _ _ (l .before .pre .0) (c .before .before .before .loop-test .taken) (omega (arith, c .before .before .shared-slice-known .given (l .loop .i))) (l .loop .inv .1) (c .if1 .left))
+    let l = c .before .before .before in
+    let a = l .before .before .args in
+    (omega arith, run-left (misses (a .least)) (reaches (a .least)) (missed (a .least)) (a .line .now) (l .loop .i) 4 (c .before .miss-mask .ensures) (l .loop .inv .1) (omega arith) (c .if1 .left))
+
+run-by-bytes-requires : tie.Need-run-by-bytes-requires Inv-loop μ-loop
+run-by-bytes-requires c κs = (c .before .before .before .pre .0, omega arith)
 
 returns-2 : tie.Need-returns-2 Inv-loop μ-loop
-returns-2 c =
-    let l = c .before in
-    omega (arith, run-end (reaches (l .before .args .least)) (l .before .args .line .now) (l .loop .i) (c .loop-test .left))
+returns-2 c = c .run-by-bytes .ensures ∙ c .before .before .loop .inv .1
 
 pub run-end-spec : {M : Type 1} → statement M
 run-end-spec =
@@ -60,11 +72,13 @@ run-end-spec =
     Inv-loop
     μ-loop
     loop-holds
-    shared-slice-read-b
-    cast-if1
-    element-copy-out-if1
+    sub-loop
+    miss-mask-requires
+    cast-result
+    add-result
     returns
     add-i
     loop-less
     loop-again
+    run-by-bytes-requires
     returns-2)

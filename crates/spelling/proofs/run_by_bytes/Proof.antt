@@ -1,0 +1,70 @@
+-- `spelling::run_by_bytes` meets its contract. What is left of the line, from i on, ends its run where the whole does.
+-- Assumes nothing.
+use Prim.Native.Nat.{_+_, _-_, _≤_}
+use mathlib.Core.Path.{_≡_, refl}
+use native.Mathlib.Omega.{arith}
+use lib.ListN.{length, drop}
+use Rattle.rules.specs.Lists.{run}
+use Rattle.rules.proofs.ListLaws.{run-end}
+use Rattle.spelling.specs.Bytes.{reaches}
+use Rattle.spelling.proofs.ReachLaws.{run-stops, run-goes}
+use Rattle.spelling.proofs.run_by_bytes.Statement.{statement}
+use Rattle.spelling.proofs.run_by_bytes.Tie as tie
+
+abbrev Inv-loop : tie.InvT-loop
+Inv-loop table line at least i₀ i = (i ≤ length line) × (i + run (reaches least) (drop i line) ≡ at + run (reaches least) (drop at line))
+
+abbrev μ-loop : tie.MeasureT-loop
+μ-loop table line at least i₀ i = length line - i
+
+loop-holds : tie.Need-loop-holds Inv-loop μ-loop
+loop-holds c = (omega arith, refl)
+
+shared-slice-read-b : tie.Need-shared-slice-read-b Inv-loop μ-loop
+shared-slice-read-b c = omega arith
+
+cast-if1 : tie.Need-cast-if1 Inv-loop μ-loop
+cast-if1 c = omega (arith, c .shared-slice-known .given (c .before .before .loop .i))
+
+element-copy-out-if1 : tie.Need-element-copy-out-if1 Inv-loop μ-loop
+element-copy-out-if1 c = omega (arith, c .shared-slice-known .given (c .before .before .loop .i))
+
+returns : tie.Need-returns Inv-loop μ-loop
+returns c =
+    let l = c .before .before .before .before in
+    run-stops _ _ _ (l .before .pre .0) (c .before .before .before .loop-test .taken)
+    (omega (arith, c .before .before .shared-slice-known .given (l .loop .i)))
+    (l .loop .inv .1)
+    (c .if1 .taken)
+
+add-i : tie.Need-add-i Inv-loop μ-loop
+add-i c = omega arith
+
+loop-less : tie.Need-loop-less Inv-loop μ-loop
+loop-less c = omega arith
+
+loop-again : tie.Need-loop-again Inv-loop μ-loop
+loop-again c =
+    let l = c .before .before .before .before in
+    (omega arith, run-goes _ _ _ (l .before .pre .0) (c .before .before .before .loop-test .taken) (omega (arith, c .before .before .shared-slice-known .given (l .loop .i))) (l .loop .inv .1) (c .if1 .left))
+
+returns-2 : tie.Need-returns-2 Inv-loop μ-loop
+returns-2 c =
+    let l = c .before in
+    omega (arith, run-end (reaches (l .before .args .least)) (l .before .args .line .now) (l .loop .i) (c .loop-test .left))
+
+pub run-by-bytes-spec : {M : Type 1} → statement M
+run-by-bytes-spec =
+    tie.close
+    (tie.spec
+    Inv-loop
+    μ-loop
+    loop-holds
+    shared-slice-read-b
+    cast-if1
+    element-copy-out-if1
+    returns
+    add-i
+    loop-less
+    loop-again
+    returns-2)
