@@ -27,7 +27,7 @@ use Rattle.line.specs.declared.Lead.{Lead}
 use Rattle.line.specs.declared.LineCuts.{LineCuts}
 use Rattle.line.specs.declared.LineCuts.the-variants.{Ends, Stops}
 
-words-append : (p l : ℕ) (xs ys : List Token) → tokenWords p l (xs ++ ys) ≡ tokenWords p l xs ++ tokenWords p l ys
+pub words-append : (p l : ℕ) (xs ys : List Token) → tokenWords p l (xs ++ ys) ≡ tokenWords p l xs ++ tokenWords p l ys
 unfolding tokenWords
 words-append p l [] ys = refl
 words-append p l (x ∷ xs) ys = rw (words-append p l xs ys)

@@ -193,7 +193,7 @@ fn is_compared(line: &[u8], s: State) -> bool
 }
 
 // The levels at a line's start.
-fn levels_of(line: &[u8], s: State, widths: &mut [u32]) -> Compared
+pub fn levels_of(line: &[u8], s: State, widths: &mut [u32]) -> Compared
     requires { ⌜ (length (now line) ≤ 1_048_576) × (length (now widths) ≡ 16) × (s .levels ≤ 16) ⌝ }
     ensures { λ r. ⌜ comparedOf r (now (widths .exit)) ≡ levelsOf 16 (stateOf s (now (widths .entry))) (now (line .entry)) ⌝ }
     ensures { λ r. ⌜ Within r ⌝ }
@@ -261,7 +261,7 @@ pub fn put_dedents(
 }
 
 // The depth that a token of this kind leaves.
-fn depth_by(depth: u32, kind: u32) -> u32
+pub fn depth_by(depth: u32, kind: u32) -> u32
     requires { ⌜ depth ≤ 8_388_608 ⌝ }
     ensures { λ r. ⌜ r ≡ depthBy depth kind ⌝ }
 {

@@ -32,12 +32,16 @@ room-front {w} {out} {at} xs ys r =
     let l = length-fields xs ys in
     record { small = omega (arith, r .small); fits = λ (h : w ≡ true). omega (arith, r .fits h) }
 
+-- past fields of this size, with out as long as before
+pub room-past : {w : Bool} {out : List ℕ} {at : ℕ} (xs ys : List (List ℕ)) {after : List ℕ} {next : ℕ}
+    → Room w out at (xs ++ ys) → next ≡ at + length (concat xs) → length after ≡ length out → Room w after next ys
+room-past {w} {out} {at} xs ys {after} {next} r size n =
+    let l = length-fields xs ys in
+    record { small = omega (arith, r .small, size); fits = λ (h : w ≡ true). omega (arith, r .fits h, size) }
+
 pub room-back : {w : Bool} {out : List ℕ} {at : ℕ} (xs ys : List (List ℕ)) {after : List ℕ} {next : ℕ}
     → Room w out at (xs ++ ys) → Put w out at xs after next → Room w after next ys
-room-back {w} {out} {at} xs ys {after} {next} r p =
-    let l = length-fields xs ys in
-    let n : length after ≡ length out = ap length (p .holds) ∙ length-putIf w out at (concat xs) in
-    record { small = omega (arith, r .small, p .size); fits = λ (h : w ≡ true). omega (arith, r .fits h, p .size) }
+room-back {w} {out} {at} xs ys {after} {next} r p = room-past xs ys r (p .size) (ap length (p .holds) ∙ length-putIf w out at (concat xs))
 
 pub put-both : {w : Bool} {out : List ℕ} {at : ℕ} {xs ys : List (List ℕ)} {after : List ℕ} {next : ℕ} {last : List ℕ} {end : ℕ}
     → Put w out at xs after next → Put w after next ys last end → Put w out at (xs ++ ys) last end
@@ -115,3 +119,10 @@ pub digits-put : {w : Bool} {out : List ℕ} {at : ℕ} (base places n : ℕ) {a
 digits-put base places n p =
     let l : length (digitsIn base places n []) ≡ places + 0 = length-digits base places n [] in
     bytes-put (omega (arith, p .0), p .1)
+
+-- the room after so many digits does not depend on which they are
+pub digits-past : {w : Bool} {out : List ℕ} {at : ℕ} (base places n : ℕ) {xs : List (List ℕ)} {after : List ℕ} {next : ℕ} → Room w out at (digitsIn base places n [] ∷ xs)
+    → next ≡ at + places → length after ≡ length out → Room w after next xs
+digits-past {w} {out} {at} base places n {xs} r size same =
+    let l : length (concat (digitsIn base places n [] ∷ [])) ≡ places + 0 = ap length (concat-one (digitsIn base places n [])) ∙ length-digits base places n [] in
+    room-past (digitsIn base places n [] ∷ []) xs r (omega arith) same

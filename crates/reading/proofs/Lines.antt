@@ -51,7 +51,7 @@ counted-halts (lineReads ts y) h e = let b : _≡_ {A = ℕ} 0 1 = cc in absurd 
 counted-halts (lineHalts g) h e = let q : g ≡ h = cc in ap lineHalts q
 
 module _ (r : LineRead) (widths : List ℕ) (x : LineReply) (e : countedOf r widths ≡ counted x) where
-  line-read : (n : ℕ) (s : State) → r ≡ Reads n s → (ts : List Token) × (x ≡ lineReads ts (stateOf s widths)) × (n ≡ length ts)
+  pub line-read : (n : ℕ) (s : State) → r ≡ Reads n s → (ts : List Token) × (x ≡ lineReads ts (stateOf s widths)) × (n ≡ length ts)
   line-read n s q = counted-reads x n (stateOf s widths) (ap (λ (y : LineRead). countedOf y widths) (sym q) ∙ e)
 
   pub line-fails : (f : cut-failure.Failure) → r ≡ line-variants.Fails f → x ≡ lineHalts (failed (failureOf f))
@@ -206,7 +206,7 @@ module _ (t : List ℕ) (write : Bool) (lines₀ tokens₀ : List ℕ) where
           (subst (λ (x : List ℕ). line-cuts.RoomIn (readLine 16 z x) k i) (sym e) (next-room whole refl n i r))
 
       -- the next line is read
-      next-pass : (ts : List Token) (s′ : State) (lines′ tokens′ widths′ : List ℕ) (n q : ℕ) → readLine 16 z (lineAt t p) ≡ lineReads ts (stateOf s′ widths′) → n ≡ length ts → q ≡ p + sizeAt t p
+      pub next-pass : (ts : List Token) (s′ : State) (lines′ tokens′ widths′ : List ℕ) (n q : ℕ) → readLine 16 z (lineAt t p) ≡ lineReads ts (stateOf s′ widths′) → n ≡ length ts → q ≡ p + sizeAt t p
           → lines′ ≡ putIf write lines (21 * m) (lineRecord p k z) → tokens′ ≡ putIf write tokens (5 * k) (tokenWords p (m + 1) ts)
           → s′ .levels ≤ 16 → length widths′ ≡ 16 → PassTo lines′ tokens′ widths′ q (m + 1) (k + n) s′
       unfolding tokenSum

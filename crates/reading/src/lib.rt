@@ -61,7 +61,7 @@ fn put_widths(lines: &mut [u32], at: usize, widths: &[u32], levels: usize)
 }
 
 // The width of level i, 0 past the open ones.
-fn width_at(widths: &[u32], levels: usize, i: usize) -> u32
+pub fn width_at(widths: &[u32], levels: usize, i: usize) -> u32
     requires { ⌜ (length (now widths) ≡ 16) × ((levels ≤ 16) × (i < 16)) ⌝ }
     ensures { λ r. ⌜ r ≡ getD (packed (take levels (now (widths .entry)))) i 0 ⌝ }
 {
@@ -116,7 +116,7 @@ fn code_of(detail: u32) -> u32
 }
 
 // The record of a failure in the line that starts at `start` and has this number.
-fn failure_record(f: cut::Failure, start: usize, number: usize) -> FailureRecord
+pub fn failure_record(f: cut::Failure, start: usize, number: usize) -> FailureRecord
     requires { ⌜ (start + (f .at + f .size) ≤ 1_048_576) × (number ≤ 1_048_577) ⌝ }
     ensures { λ r. ⌜ r ≡ recordIn (failureRecord start number (failureOf f)) ⌝ }
 {
@@ -134,7 +134,7 @@ fn failure_record(f: cut::Failure, start: usize, number: usize) -> FailureRecord
 }
 
 // Past the LF that stands at `end`, where one does.
-fn past_lf(text: &[u8], end: usize) -> usize
+pub fn past_lf(text: &[u8], end: usize) -> usize
     ensures { λ r. ⌜ r ≡ (if ltb end (length (now (text .entry))) then suc end else end) ⌝ }
 {
     if end < text.len() {

@@ -4,7 +4,7 @@ use mathlib.Core.Path.{sym, _∙_}
 use native.Mathlib.Omega.{arith}
 use borrow.Author.Needs.{needs}
 use Rattle.rules.specs.Lists.{ascii}
-use Rattle.message.proofs.Fields.{put-as, put-none, put-then, room-as, room-first, room-next, bytes-room, bytes-put, digits-room, digits-put}
+use Rattle.message.proofs.Fields.{put-as, put-none, put-then, room-as, room-first, room-next, bytes-room, bytes-put, digits-room, digits-put, digits-past}
 use Rattle.message.proofs.Details.{found-scalar, found-digits, found-none}
 use Rattle.message.proofs.put_found.Statement.{statement}
 use Rattle.message.proofs.put_found.Tie as tie
@@ -50,7 +50,8 @@ put-bytes-requires-2 : tie.Need-put-bytes-requires-2
 put-bytes-requires-2 c κs =
     let s = c .before .before .before .before .before .before .before .before .before .before in
     let e = found-digits (s .args .detail) (s .args .found) (c .before .before .before .before .before .before .if2 .taken) in
-    bytes-room (room-next (room-as (sym e) (s .pre .3)) (digits-put 16 4 _ (c .before .before .before .before .put-digits .ensures)))
+    let p = c .before .before .before .before .put-digits in
+    bytes-room {out = p .last .0} (digits-past 16 4 (s .args .found) (room-as (sym e) (s .pre .3)) (p .ensures .0) (p .kept .0))
 
 same-length-2 : tie.Need-same-length-2
 same-length-2 c = search needs

@@ -156,7 +156,7 @@ add-k c =
     let here = slice-is (a .text .now) at end (c .before .before .before .before .before .before .before .before .before .before .before .line-end .ensures) in
     let h = c .before .before .before .before .before .before .before .before .before .before .before .before .before .before .before .before .before .loop-test .taken in
     let next = next-from (a .text .now) (a .write) (a .lines .now) (a .tokens .now) v h (take (end - at) (drop at (a .text .now))) here _ _ (c .before .before .before .before .before .before .before .read-line .ensures .0) (c .before .before .before .before .before .before .before .read-line .ensures .1 .0) _ _ (c .before .n .given .1) (at + sizeAt (a .text .now) at)
-    refl _ _ (c .before .before .before .before .before .before .before .before .before .before .before .before .before .before .put-line .ensures) (c .before .before .before .before .before .before .before .read-line .ensures .1 .1)
+    refl _ _ refl refl
     (c .before .before .before .before .before .before .before .read-line .kept .1 .1 .1 .1 .1 .1 .1 .1 .1 .1 .1 .0 ∙ v .wide) in
     let far = small (a .text .now) (a .write) (a .lines .now) (a .tokens .now) next (q .0 .0) in
     omega (arith, far .1, next .inside, q .0 .0)
