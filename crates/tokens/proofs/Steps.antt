@@ -1,0 +1,29 @@
+-- A step of a walk, by how many words are left.
+-- Assumes nothing.
+use Prim.Native.Nat.{ℕ, suc, _+_, _*_, _≤_, _<_}
+use mathlib.Core.Path.{_≡_, sym, ap, _∙_}
+use mathlib.Core.List.{List, [], _∷_}
+use native.Mathlib.Numerals.{add-one}
+use native.Mathlib.Omega.{arith}
+use lib.ListN.{length, getD, take, drop}
+use lib.Seq.{drop-cons}
+use borrow.Author.Tests.{lt-ltb, le-ltb}
+use Rattle.rules.specs.Walk.{isWalked, walkReply}
+
+-- the five words from place k on
+abbrev wordsAt : List ℕ → (k : ℕ) → List ℕ
+wordsAt ts k = getD ts k 0 ∷ getD ts (k + 1) 0 ∷ getD ts (k + 2) 0 ∷ getD ts (k + 3) 0 ∷ getD ts (k + 4) 0 ∷ []
+
+five-words : (ts : List ℕ) (k : ℕ) → k + 5 ≤ length ts → take 5 (drop k ts) ≡ wordsAt ts k
+five-words ts k h =
+    let word : (j j′ : ℕ) → j < length ts → suc j ≡ j′ → drop j ts ≡ getD ts j 0 ∷ drop j′ ts = λ j j′ l e. drop-cons ts j 0 l ∙ ap (λ (n : ℕ). getD ts j 0 ∷ drop n ts) e in
+    rw (word k (k + 1) (omega arith) (omega arith), word (k + 1) (k + 2) (omega arith) (omega arith), word (k + 2) (k + 3) (omega arith) (omega arith), word (k + 3) (k + 4) (omega arith) (omega arith), word (k + 4) (k + 5) (omega arith) (omega arith))
+
+module _ (ts : List ℕ) (i : ℕ) where
+  pub done : length ts < 5 * i + 5 → (0 ∷ 0 ∷ i ∷ []) ≡ walkReply ts i
+  unfolding walkReply isWalked
+  done h = rw (lt-ltb (length ts) (5 * i + 5) h)
+
+  pub goes-on : 5 * i + 5 ≤ length ts → (0 ∷ 1 ∷ (i + 1) ∷ wordsAt ts (5 * i)) ≡ walkReply ts i
+  unfolding walkReply isWalked
+  goes-on h = rw (le-ltb (length ts) (5 * i + 5) h, five-words ts (5 * i) h, add-one i)
