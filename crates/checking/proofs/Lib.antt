@@ -1,0 +1,9 @@
+pub mod Begins
+pub mod Tokens
+pub mod LineRecords
+pub mod Cuts
+pub mod WholeLine
+pub mod LineReplies
+pub mod Rest
+pub mod Lines
+pub mod Pages
