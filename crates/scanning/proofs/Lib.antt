@@ -1,0 +1,4 @@
+pub mod Rows
+pub mod Sizes
+pub mod Scans
+pub mod Shown
