@@ -1,0 +1,4 @@
+pub mod Words
+pub mod Moves
+pub mod Joins
+pub mod Shifts

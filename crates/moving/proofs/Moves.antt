@@ -1,0 +1,161 @@
+-- Records of any width moved within one list: where they stand, down (the first first) and up (the last first).
+-- Assumes nothing.
+use Prim.Native.Nat.{ℕ, zero, suc, _+_, _-_, _*_, _≤_, _<_}
+use mathlib.Core.Path.{_≡_, refl, sym, ap, _∙_}
+use mathlib.Core.List.{List, [], _∷_, _++_}
+use mathlib.Core.Logic.{_⊎_, inl, inr, ⊎-elim}
+use native.Mathlib.Omega.{arith}
+use native.Mathlib.Nat.{add-zero, add-assoc, eq-zero-or-pos, mul-le-mul-left}
+use lib.ListN.{length, getD, set}
+use lib.Seq.{sets, set-getD, getD-set-other}
+use Rattle.laws.specs.Blocks.{blocks}
+use Rattle.laws.proofs.Sets.{sets-append, blocks-length, block-up, block-down, getD-sets-above, getD-sets-below}
+use Rattle.moving.specs.Moved.{wordValues, distance, shifted, words, movedToken, movedLine}
+use Rattle.moving.proofs.Words.{length-words, words-at, words-same, words-append, getD-sets-in, sets-again, sets-words}
+
+-- a record is w words, made of the w words at its place
+pub record Width (w : ℕ) (g : List ℕ → ℕ → List ℕ) : Type 0 where
+  pub wide : (ws : List ℕ) (i : ℕ) → length (g ws i) ≡ w
+  pub near : (ws l : List ℕ) (i k : ℕ) → ((t : ℕ) → t < w → getD ws (i + t) 0 ≡ getD l (k + t) 0) → g ws i ≡ g l k
+
+module _ {w : ℕ} {g : List ℕ → ℕ → List ℕ} (r : Width w g) (l : List ℕ) where
+  -- the w words from s brought to d, then made a record there
+  pub brought : (ws : List ℕ) (s d : ℕ) → d + w ≤ length l → ws ≡ sets l d (words l s w) → sets ws d (g ws d) ≡ sets l d (g l s)
+  brought ws s d h e =
+      let n = length-words l s w in
+      ap (λ (v : List ℕ). sets ws d v) (r .near ws l d s (λ t v. ap (λ (k : List ℕ). getD k (d + t) 0) e ∙ getD-sets-in (words l s w) l d t (omega arith) (omega arith) ∙ words-at l s w t v))
+      ∙ ap (λ (k : List ℕ). sets k d (g l s)) e
+      ∙ sets-again (words l s w) (g l s) l d (n ∙ sym (r .wide l s)) (omega arith)
+
+  module _ (at : ℕ → ℕ) where
+    long : (i n : ℕ) → length (blocks (λ j. g l (at j)) i n) ≡ n * w
+    long i n = blocks-length (λ j. g l (at j)) w (λ j. r .wide l (at j)) i n
+
+    -- after j records from the first on, the next one: b is where it goes
+    pub down-turn : (ws : List ℕ) (base j b : ℕ) → ws ≡ sets l base (blocks (λ j. g l (at j)) 0 j) → b ≡ base + j * w → b ≤ at j
+        → sets ws b (g ws (at j)) ≡ sets l base (blocks (λ j. g l (at j)) 0 (j + 1))
+    down-turn ws base j b e eb h =
+        let m = long 0 j in
+        ap (λ (v : List ℕ). sets ws b v) (r .near ws l (at j) (at j) (λ t v. ap (λ (k : List ℕ). getD k (at j + t) 0) e ∙ getD-sets-above (blocks (λ j. g l (at j)) 0 j) l base (at j + t) 0 (omega arith)))
+        ∙ ap (λ (k : List ℕ). sets k b (g l (at j))) e
+        ∙ block-up (λ j. g l (at j)) l base j b (omega arith)
+
+    -- after n records down to record j₁, the one before
+    pub up-turn : (ws : List ℕ) (j j₁ n n₁ b b₁ : ℕ) → ws ≡ sets l b₁ (blocks (λ j. g l (at j)) j₁ n) → j₁ ≡ suc j → n₁ ≡ suc n → b₁ ≡ b + w → at j ≤ b
+        → sets ws b (g ws (at j)) ≡ sets l b (blocks (λ j. g l (at j)) j n₁)
+    up-turn ws j j₁ n n₁ b b₁ e ej en eb h =
+        ap (λ (v : List ℕ). sets ws b v) (r .near ws l (at j) (at j) (λ t v. ap (λ (k : List ℕ). getD k (at j + t) 0) e ∙ getD-sets-below (blocks (λ j. g l (at j)) j₁ n) l b₁ (at j + t) 0 (omega arith)))
+        ∙ ap (λ (k : List ℕ). sets k b (g l (at j))) e
+        ∙ block-down (λ j. g l (at j)) l j j₁ n n₁ b b₁ ej en (eb ∙ ap (λ (k : ℕ). b + k) (sym (r .wide l (at j))))
+
+-- records that are the words where they stand
+pub blocks-still : (w : ℕ) (l : List ℕ) (f : ℕ → List ℕ) (from : ℕ) → ((j : ℕ) → f j ≡ words l (w * (from + j)) w) → (i n : ℕ) → sets l (w * (from + i)) (blocks f i n) ≡ l
+blocks-still w l f from h i zero = refl
+blocks-still w l f from h i (suc n) =
+    let here : sets l (w * (from + i)) (f i) ≡ l = ap (sets l (w * (from + i))) (h i) ∙ sets-words l (w * (from + i)) w in
+    let next : w * (from + i) + length (f i) ≡ w * (from + suc i) = ap (λ (v : List ℕ). w * (from + i) + length v) (h i) ∙ omega (arith, length-words l (w * (from + i)) w) in
+    sets-append (f i) (blocks f (suc i) n) l (w * (from + i))
+    ∙ ap (λ (k : List ℕ). sets k (w * (from + i) + length (f i)) (blocks f (suc i) n)) here
+    ∙ ap (λ (k : ℕ). sets l k (blocks f (suc i) n)) next
+    ∙ blocks-still w l f from h (suc i) n
+
+-- distances as the code has them, and the record where the move ends
+pub by-bases : (w : ℕ) (g : ℕ → ℕ → List ℕ → ℕ → List ℕ) (p p′ k k′ : ℕ) (l : List ℕ) (from n d e i j : ℕ) → d ≡ distance p p′ → e ≡ distance k k′ → i ≡ j
+    → sets l (w * i) (blocks (λ j. g d e l (w * (from + j))) 0 n) ≡ sets l (w * j) (blocks (λ j. g (distance p p′) (distance k k′) l (w * (from + j))) 0 n)
+by-bases w g p p′ k k′ l from n d e i j ed ee ei = λ t. sets l (w * ei t) (blocks (λ j. g (ed t) (ee t) l (w * (from + j))) 0 n)
+
+-- the same place, one below, or one past the record
+pub apart : (w from to : ℕ) → (w * to ≤ w * from) ⊎ (w * from + w ≤ w * to)
+apart w from to =
+    ⊎-elim (λ (x : to - from ≡ 0). inl (mul-le-mul-left w (omega arith)))
+    (λ (x : 0 < to - from). inr (below (omega arith)))
+    (eq-zero-or-pos (to - from))
+  where
+    below : from + 1 ≤ to → w * from + w ≤ w * to
+    below h = omega (arith, mul-le-mul-left w h)
+
+-- a word stored where it stands already
+set-kept : (l k : List ℕ) (i : ℕ) → getD l i 0 ≡ getD k i 0 → set l i (getD k i 0) ≡ l
+set-kept l k i e = ap (set l i) (sym e) ∙ set-getD l i 0
+
+-- Token records.
+
+pub token-width : (d e : ℕ) → Width 5 (movedToken d e)
+unfolding movedToken
+token-width d e =
+    record {
+      wide = λ ws i. refl;
+      near = λ ws l i k h.
+          let a : getD ws i 0 ≡ getD l k 0 = rw (add-zero i, add-zero k) at (h 0 (omega arith)) in
+          rw (a, h 1 (omega arith), h 2 (omega arith), h 3 (omega arith), h 4 (omega arith));
+    }
+
+-- the two words that change
+pub token-stores : (d e : ℕ) (l : List ℕ) (i x y : ℕ) → x ≡ shifted d (getD l (i + 1) 0) → y ≡ shifted e (getD l (i + 3) 0)
+    → set (set l (i + 1) x) (i + 3) y ≡ sets l i (movedToken d e l i)
+unfolding movedToken
+token-stores d e l i x y ex ey =
+    let e1 : i + 1 ≡ suc i = omega arith in
+    let e2 : i + 2 ≡ suc (suc i) = omega arith in
+    let e3 : i + 3 ≡ suc (suc (suc i)) = omega arith in
+    let e4 : i + 4 ≡ suc (suc (suc (suc i))) = omega arith in
+    rw (ex, ey, e1, e2, e3, e4) (go (shifted d (getD l (suc i) 0)) (shifted e (getD l (suc (suc (suc i))) 0)))
+  where
+    go : (x y : ℕ) → set (set l (suc i) x) (suc (suc (suc i))) y
+        ≡ sets l i (getD l i 0 ∷ x ∷ getD l (suc (suc i)) 0 ∷ y ∷ getD l (suc (suc (suc (suc i)))) 0 ∷ [])
+    go x y =
+        let a : List ℕ = set l (suc i) x in
+        let b : List ℕ = set a (suc (suc (suc i))) y in
+        sym (ap (λ (k : List ℕ). sets k (suc i) (x ∷ getD l (suc (suc i)) 0 ∷ y ∷ getD l (suc (suc (suc (suc i)))) 0 ∷ [])) (set-getD l i 0)
+        ∙ ap (λ (k : List ℕ). sets k (suc (suc (suc i))) (y ∷ getD l (suc (suc (suc (suc i)))) 0 ∷ []))
+        (set-kept a l (suc (suc i)) (getD-set-other l (suc i) (suc (suc i)) x 0 (omega arith)))
+        ∙ set-kept b l (suc (suc (suc (suc i))))
+        (getD-set-other a (suc (suc (suc i))) (suc (suc (suc (suc i)))) y 0 (omega arith) ∙ getD-set-other l (suc i) (suc (suc (suc (suc i)))) x 0 (omega arith)))
+
+-- Line records.
+
+pub line-width : (d e : ℕ) → Width 21 (movedLine d e)
+unfolding movedLine
+line-width d e =
+    record {
+      wide = λ ws i. ap (λ (n : ℕ). suc (suc n)) (length-words ws (i + 2) 19);
+      near = λ ws l i k h.
+          let a : getD ws i 0 ≡ getD l k 0 = rw (add-zero i, add-zero k) at (h 0 (omega arith)) in
+          let b : words ws (i + 2) 19 ≡ words l (k + 2) 19 = words-same ws l (i + 2) (k + 2) 19 (λ t v. later ws l i k t (h (2 + t) (omega arith))) in
+          rw (a, h 1 (omega arith), b);
+    }
+  where
+    later : (ws l : List ℕ) (i k t : ℕ) → getD ws (i + (2 + t)) 0 ≡ getD l (k + (2 + t)) 0 → getD ws (i + 2 + t) 0 ≡ getD l (k + 2 + t) 0
+    later ws l i k t h = rw (add-assoc i 2 t, add-assoc k 2 t) h
+
+pub line-stores : (d e : ℕ) (l : List ℕ) (i x y : ℕ) → x ≡ shifted d (getD l i 0) → y ≡ shifted e (getD l (i + 1) 0)
+    → set (set l i x) (i + 1) y ≡ sets l i (movedLine d e l i)
+unfolding movedLine
+line-stores d e l i x y ex ey =
+    let e1 : i + 1 ≡ suc i = omega arith in
+    let e2 : suc (suc i) ≡ i + 2 = omega arith in
+    let a : List ℕ = set (set l i (shifted d (getD l i 0))) (suc i) (shifted e (getD l (i + 1) 0)) in
+    let kept : words l (i + 2) 19 ≡ words a (i + 2) 19 =
+    words-same l a (i + 2) (i + 2) 19 (λ t v. sym (getD-set-other (set l i (shifted d (getD l i 0))) (suc i) (i + 2 + t) (shifted e (getD l (i + 1) 0)) 0 (omega arith) ∙ getD-set-other l i (i + 2 + t) (shifted d (getD l i 0)) 0 (omega arith))) in
+    ap (λ (v : ℕ). set (set l i v) (i + 1) y) ex ∙ ap (λ (v : ℕ). set (set l i (shifted d (getD l i 0))) (i + 1) v) ey ∙ ap (λ (n : ℕ). set (set l i (shifted d (getD l i 0))) n (shifted e (getD l (i + 1) 0))) e1
+    ∙ sym (ap (sets a (suc (suc i))) kept ∙ ap (λ (n : ℕ). sets a n (words a (i + 2) 19)) e2 ∙ sets-words a (i + 2) 19)
+
+-- A move by nothing.
+
+module _ (d e : ℕ) (l : List ℕ) (small : (i : ℕ) → getD l i 0 < wordValues) (ed : d ≡ 0) (ee : e ≡ 0) where
+  unshifted : (by i : ℕ) → by ≡ 0 → shifted by (getD l i 0) ≡ getD l i 0
+  unfolding shifted
+  unshifted by i h = omega (arith, small i)
+
+  pub token-kept : (i : ℕ) → movedToken d e l i ≡ words l i 5
+  unfolding movedToken words
+  token-kept i = rw (add-zero i, unshifted d (i + 1) ed, unshifted e (i + 3) ee)
+
+  two-words : (i : ℕ) → words l i 2 ≡ getD l i 0 ∷ getD l (i + 1) 0 ∷ []
+  unfolding words
+  two-words i = rw (add-zero i)
+
+  pub line-kept : (i : ℕ) → movedLine d e l i ≡ words l i 21
+  unfolding movedLine
+  line-kept i =
+      rw (unshifted d i ed, unshifted e (i + 1) ee) (sym (words-append l i 2 19 ∙ ap (λ (r : List ℕ). r ++ words l (i + 2) 19) (two-words i)))
