@@ -1,0 +1,4 @@
+pub mod Words
+pub mod OldLines
+pub mod Rereads
+pub mod Rewrites

@@ -1,0 +1,20 @@
+-- What the next line gives.
+-- Assumes nothing.
+use Prim.Native.Nat.{ℕ, _≤_}
+use mathlib.Core.Path.{_≡_}
+use mathlib.Core.List.{List}
+use lib.ListN.{length}
+use Rattle.rules.specs.Failure as rules-failure
+use Rattle.rules.specs.Failure.{failureRecord}
+use Rattle.rules.specs.Line.{Token, failed, overLimit, LineReply, lineReads, lineHalts}
+use Rattle.line.specs.States.{stateOf}
+use Rattle.reading.specs.Passes.{recordIn}
+use Rattle.rereading.specs.declared.Step.{Step}
+use Rattle.rereading.specs.declared.Step.the-variants.{Reads, Fails, TooDeep}
+
+-- a line's reply, for the line with this number that starts at this byte: with the widths left, where the next one starts, the number
+-- of tokens and the state; or the failure's record; or a level too many
+abbrev pub StepIs : (widths : List ℕ) (start number next : ℕ) → LineReply → Step → Type 0
+StepIs ws p l next x (Reads q n s) = (ts : List Token) × (x ≡ lineReads ts (stateOf s ws)) × (n ≡ length ts) × (q ≡ next) × (s .levels ≤ 16)
+StepIs ws p l next x (Fails r) = (f : rules-failure.Failure) × (x ≡ lineHalts (failed f)) × (r ≡ recordIn (failureRecord p l f))
+StepIs ws p l next x TooDeep = x ≡ lineHalts overLimit
