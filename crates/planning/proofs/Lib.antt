@@ -1,0 +1,3 @@
+pub mod Starts
+pub mod Begins
+pub mod Plans

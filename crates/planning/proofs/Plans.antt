@@ -1,0 +1,488 @@
+-- A plan on a faithful page is the one on paper.
+-- Assumes nothing.
+use Prim.Native.Nat.{ℕ, zero, suc, _+_, _-_, _*_, _≤_, _<_}
+use mathlib.Core.Path.{_≡_, refl, sym, ap, subst, _∙_}
+use mathlib.Core.Bool.{Bool, true, false, not}
+use mathlib.Core.List.{List, [], _∷_, _++_, append-assoc, append-nil}
+use native.Mathlib.Omega.{arith}
+use native.Mathlib.Nat.{add-zero}
+use lib.Dec.{ltb, eqb}
+use lib.ListN.{length, getD, take, drop, length-append, length-drop, length-take, drop-of-length-le, take-append-drop, length-replicate}
+use lib.Seq.{take-take, take-all, take-append-le, length-take-le}
+use borrow.Author.Tests.{lt-ltb, le-ltb, ltb-true, ltb-false}
+use Rattle.rules.specs.Lists.{if_then_else_, bit}
+use Rattle.rules.specs.Line.{State, initial, tokenAt, Halt, failed, overLimit}
+use Rattle.rules.specs.Reading.{linesOf, countLF, Entry, Reading, reads, halts, readFrom, byteSum, tokenSum}
+use Rattle.rules.specs.Replies.{maxBytes, maxLevels, barge, Unread, lexical, atLine, Refusal, reading, short, unfit, linesBuffer, tokensBuffer, refusedIf, firstOf, unless, isTooLong}
+use Rattle.rules.specs.Records.{lineNeed, tokenNeed, packed, stateWords, lineRecords, endEntry, withEnd, Records, recordsOf, recordTests, haltRefusal, recordedBy, FreshReading, recorded, unread, readLines}
+use Rattle.rules.specs.Page.{Page, pageText, pageRecords, Faithful}
+use Rattle.rules.specs.StopRule.{Edit, edited, keptFrom, rereadCount}
+use Rattle.rules.specs.Edit.{Outcome, late, done, stored}
+use Rattle.rules.proofs.LineLaws.{total, drop-lines}
+use Rattle.rules.proofs.ReadingLaws.{stateAt, parts, read-sizes, byteSum-append, tokenSum-append}
+use Rattle.rules.proofs.RecordLaws.{Behind, behind}
+use Rattle.rules.proofs.StateLaws.{unpacked}
+use Rattle.rules.proofs.EditedLaws.{length-edited}
+use Rattle.rules.proofs.MendLaws.{kept-size, kept-length}
+use Rattle.rules.proofs.LoopLaws.{ReadTo, fromLine, fromByte, fromState, with-end}
+use Rattle.rules.proofs.BoundLaws.{Small, fresh-small, GrownTo, read-grown}
+use Rattle.rules.proofs.PageLaws.{Fits, page-length, fresh-inverse}
+use Rattle.rereading.specs.Words.{startWord, stateIn}
+use Rattle.rereading.specs.Rereads.{Old, Lines, RereadIs}
+use Rattle.rereading.specs.declared.Reread.{Reread}
+use Rattle.rereading.specs.declared.Reread.the-variants.{Stops, Ends, Fails, TooDeep}
+use Rattle.reading.specs.declared.FailureRecord.{FailureRecord}
+use Rattle.rereading.proofs.Words.{state-words}
+use Rattle.rereading.proofs.OldLines.{start-is, first-is, state-is, levels-at}
+use Rattle.header.specs.Pages.{page}
+use Rattle.planning.specs.Starts.{lineWord, stateFrom, isUsable}
+use Rattle.planning.specs.Plans.{linesAfter, tokensAfter, roomed, beginLine, stopPlan, stopAnswer, endPlan, newLines, plannedLines, ReadsAs, Planned, Roomy, Mends, editOf, recordOut, OnPaper, PlanIs}
+use Rattle.planning.specs.declared.Plan.{Plan}
+use Rattle.planning.specs.declared.PlanAnswer.{PlanAnswer}
+use Rattle.planning.specs.declared.PlanAnswer.the-variants.{Writes, ShortLines, ShortTokens, Unfit}
+use Rattle.planning.proofs.Starts.{Usable, usable-true, true-usable}
+use Rattle.planning.proofs.Begins.{Begun, begin-at}
+
+-- A state from its words.
+
+arrow-back : (b : Bool) → not (eqb (bit b) 0) ≡ b
+arrow-back true = refl
+arrow-back false = refl
+
+state-from : (lines : List ℕ) (i : ℕ) (z : State) → 21 * (i + 1) ≤ length lines → length (z .widths) ≤ maxLevels → stateIn lines i ≡ stateWords z → stateFrom lines i ≡ z
+unfolding stateWords
+state-from lines i z h few e =
+    let w : getD lines (21 * i + 2) 0 ∷ getD lines (21 * i + 2 + 1) 0 ∷ getD lines (21 * i + 2 + 2) 0 ∷ take 16 (drop (21 * i + 2 + 3) lines)
+    ≡ z .depth ∷ bit (z .arrow) ∷ length (z .widths) ∷ packed (z .widths) = sym (state-words lines i h z) ∙ e in
+    let n3 : 21 * i + 3 ≡ 21 * i + 2 + 1 = omega arith in
+    let n4 : 21 * i + 4 ≡ 21 * i + 2 + 2 = omega arith in
+    let n5 : 21 * i + 5 ≡ 21 * i + 2 + 3 = omega arith in
+    let d : lineWord lines i 2 ≡ z .depth = cc in
+    let a : getD lines (21 * i + 2 + 1) 0 ≡ bit (z .arrow) = cc in
+    let l : getD lines (21 * i + 2 + 2) 0 ≡ length (z .widths) = cc in
+    let p : take 16 (drop (21 * i + 2 + 3) lines) ≡ packed (z .widths) = cc in
+    let a2 : not (eqb (lineWord lines i 3) 0) ≡ z .arrow = ap (λ (n : ℕ). not (eqb (getD lines n 0) 0)) n3 ∙ ap (λ (x : ℕ). not (eqb x 0)) a ∙ arrow-back (z .arrow) in
+    let w2 : take (lineWord lines i 4) (take 16 (drop (21 * i + 5) lines)) ≡ z .widths =
+    (λ x. take (getD lines (n4 x) 0) (take 16 (drop (n5 x) lines))) ∙ (λ x. take (l x) (p x)) ∙ unpacked (z .widths) few in
+    λ x. record { depth = d x; arrow = a2 x; widths = w2 x }
+
+-- Lists with the end.
+
+sum-end : (es : List Entry) (z : State) → byteSum (withEnd es z) ≡ byteSum es
+unfolding byteSum
+sum-end es z = byteSum-append es (endEntry z ∷ []) ∙ add-zero (byteSum es)
+
+length-end : (es : List Entry) (z : State) → length (withEnd es z) ≡ length es + 1
+length-end es z = length-append es (endEntry z ∷ [])
+
+take-sum : (i : ℕ) (es : List Entry) → tokenSum (take i es) ≤ tokenSum es
+take-sum i es = omega (arith, ap tokenSum (take-append-drop i es), tokenSum-append (take i es) (drop i es))
+
+end-levels : (y : State) → length (endEntry y .tokens) ≡ length (y .widths)
+end-levels y = length-replicate (length (y .widths)) (tokenAt 91 0 0)
+
+pub short-text : (t : List ℕ) → isTooLong barge t ≡ false → length t ≤ maxBytes
+unfolding isTooLong
+short-text t e = ltb-false maxBytes (length t) e
+
+-- A page of these parts that fits, a proper edit of it, and the edited text within the limit.
+module _ (n m k : ℕ) (text lines tokens : List ℕ) (a b : ℕ) (w : List ℕ) (f : Fits (page n m k text lines tokens)) (order : a ≤ b) (inside : b ≤ n)
+    (small : length (edited (take n text) (editOf a b w)) ≤ 1_048_576) where
+  abbrev pg : Page
+  pg = page n m k text lines tokens
+
+  abbrev t : List ℕ
+  t = take n text
+
+  abbrev ed : Edit
+  ed = editOf a b w
+
+  abbrev u : List ℕ
+  u = edited t ed
+
+  long : length t ≡ n
+  long = page-length pg f
+
+  -- The lines behind a faithful page.
+  module _ (bh : Behind t (pageRecords pg)) where
+    abbrev es : List Entry
+    es = bh .entries
+
+    abbrev end : State
+    end = bh .end
+
+    ha : a ≤ length t
+    ha = omega (arith, long)
+
+    m-is : m ≡ length es
+    unfolding recordsOf
+    m-is = ap (λ (r : Records). r .head .m) (bh .records-are)
+
+    k-is : k ≡ tokenSum (withEnd es end)
+    unfolding recordsOf
+    k-is = ap (λ (r : Records). r .head .k) (bh .records-are)
+
+    n-is : n ≡ byteSum es
+    unfolding recordsOf
+    n-is = ap (λ (r : Records). r .head .n) (bh .records-are)
+
+    lines-are : take (lineNeed m) lines ≡ lineRecords 0 0 (withEnd es end)
+    unfolding recordsOf
+    lines-are = ap (λ (r : Records). r .lines) (bh .records-are)
+
+    i-le : countLF (take a t) ≤ m
+    i-le = omega (arith, kept-length maxLevels t es end (bh .reads-are) ed ha, length-take (countLF (take a t)) es, m-is)
+
+    start-of : (x : ℕ) → x ≤ m → lineWord lines x 0 ≡ byteSum (take x es)
+    start-of x h = ap (λ (y : ℕ). getD lines y 0) (add-zero (21 * x)) ∙ start-is lines m es end m-is lines-are x h
+
+    first-of : (x : ℕ) → x ≤ m → lineWord lines x 1 ≡ tokenSum (take x es)
+    first-of x h = first-is lines m es end m-is lines-are x h
+
+    state-of : (x : ℕ) → x ≤ m → stateFrom lines x ≡ stateAt es end x
+    state-of x h =
+        state-from lines x (stateAt es end x) (omega (arith, f .lines)) (levels-at t es end (bh .reads-are) x) (state-is lines m es end m-is lines-are x h)
+
+    -- a reading of the first x lines
+    read-at : (x : ℕ) → ReadTo maxLevels initial t (byteSum (take x es)) (take x es) (stateAt es end x)
+    read-at x =
+        let p = parts maxLevels x initial (linesOf t) es end (bh .reads-are) in
+        record {
+          lines = take x (linesOf t);
+          split = sym (take-append-drop x (linesOf t)) ∙ ap (λ (y : List (List ℕ)). take x (linesOf t) ++ y) (drop-lines x t ∙ ap (λ (i : ℕ). linesOf (drop i t)) (p .sizes));
+          reads-are = p .front;
+          bytes = refl;
+        }
+
+    levels-word : (x : ℕ) → x ≤ m → lineWord lines x 4 ≤ 16
+    unfolding stateWords
+    levels-word x h =
+        let w = state-words lines x (omega (arith, f .lines)) (stateAt es end x) in
+        let q = sym w ∙ state-is lines m es end m-is lines-are x h in
+        let l : getD lines (21 * x + 2 + 2) 0 ≡ length (stateAt es end x .widths) = cc in
+        let n4 : 21 * x + 4 ≡ 21 * x + 2 + 2 = omega arith in
+        omega (arith, ap (λ (y : ℕ). getD lines y 0) n4, l, levels-at t es end (bh .reads-are) x)
+
+    -- the record where reading again begins passes the tests
+    module _ (i : ℕ) (e : i ≡ countLF (take a t)) where
+      within : i ≤ m
+      within = omega (arith, i-le)
+
+      pub usable-of : isUsable lines i k a ≡ true
+      usable-of =
+          let g = read-grown maxLevels initial t (byteSum (take i es)) (take i es) (stateAt es end i) (read-at i) in
+          let s = start-of i within in
+          let z = state-of i within in
+          let d : lineWord lines i 2 ≡ stateAt es end i .depth = ap (λ (y : State). y .depth) z in
+          let c : length (take i es) ≡ i = length-take-le i es (omega (arith, within, m-is)) in
+          let g2 : stateAt es end i .depth ≤ 0 + byteSum (take i es) = g .depth in
+          true-usable lines i k a record {
+            start = omega (arith, s, kept-size maxLevels t es end (bh .reads-are) ed ha, ap (λ (x : ℕ). byteSum (take x es)) e);
+            number = omega (arith, s, g .lines, c);
+            first = omega (arith, first-of i within, k-is, take-sum i es, tokenSum-append es (endEntry end ∷ []));
+            depth = omega (arith, s, d, g2);
+            levels = levels-word i within;
+          }
+
+      -- what reading again knows of the page
+      pub old-of : (base : ℕ) → base ≡ lineWord lines i 0 → Old (drop base u) lines base i m b (a + length w) (stateFrom lines i)
+      old-of base eb =
+          let bi : base ≡ byteSum (take (countLF (take a t)) es) = eb ∙ start-of i within ∙ ap (λ (x : ℕ). byteSum (take x es)) e in
+          record {
+            text = t;
+            entries = es;
+            end = end;
+            reads-are = bh .reads-are;
+            m-is = m-is;
+            lines-are = lines-are;
+            ed = ed;
+            begins = ha;
+            order = order;
+            inside = omega (arith, inside, long);
+            b-is = refl;
+            kept-is = refl;
+            i-is = e;
+            base-is = bi;
+            state-is = state-of i within ∙ ap (stateAt es end) e;
+            rest-is = ap (λ (x : ℕ). drop x u) bi;
+          }
+
+  -- A faithful page has lines behind it, and begins within them.
+
+  pub faithful-behind : Faithful pg → Behind t (pageRecords pg)
+  faithful-behind h = behind t (pageRecords pg) (fresh-inverse t (pageRecords pg) h .2)
+
+  pub begins-within : Faithful pg → (i : ℕ) → i ≡ beginLine text lines m k a → m < i → ⊥
+  begins-within h i e x =
+      let v = fresh-inverse t (pageRecords pg) h in
+      let bh = behind t (pageRecords pg) (v .2) in
+      let s = fresh-small t (pageRecords pg) (short-text t (v .0)) (v .2) in
+      let at : countLF (take a text) ≡ countLF (take a t) = ap countLF (sym (take-take a n text (omega (arith, order, inside)))) in
+      let b = begin-at text lines m k a (omega (arith, s .n-le, s .m-le)) (omega (arith, s .n-le, s .k-le)) (countLF (take a text)) refl
+      (omega (arith, at, i-le bh)) (usable-of bh (countLF (take a text)) at) in
+      omega (arith, e, b, at, i-le bh)
+
+  -- A plan, with room or without.
+  module _ (p : Plan) (pl : Planned u lines m k p) (mends : (bh : Behind t (pageRecords pg)) → Mends t lines (bh .entries) (bh .end) ed p) where
+    sizes-of : (x : Reading) → plannedLines u lines p ≡ x → ReadsAs p x → (p .lines ≡ length (newLines (p .ends) x)) × (p .tokens ≡ tokenSum (newLines (p .ends) x))
+    sizes-of (reads es z) e r = (r .3, r .4)
+    sizes-of (halts es h) e r = absurd r
+
+    module _ (bh : Behind t (pageRecords pg)) where
+      abbrev new : List Entry
+      new = newLines (p .ends) (plannedLines u lines p)
+
+      abbrev old : List Entry
+      old = withEnd (bh .entries) (bh .end)
+
+      lines-sum : linesAfter p m ≡ length (mends bh .entries) + 1
+      lines-sum =
+          let x = mends bh in
+          omega (
+            arith,
+            sizes-of (plannedLines u lines p) refl (pl .reads-as) .0,
+            sym (length-end (x .entries) (x .last)) ∙ ap length (x .mended),
+            length-append (take (p .i) old) (new ++ drop (p .j) old),
+            length-append new (drop (p .j) old),
+            length-take (p .i) old,
+            length-drop (p .j) old,
+            length-end (bh .entries) (bh .end),
+            m-is bh,
+            pl .i-le,
+            pl .j-le,
+          )
+
+      tokens-sum : tokensAfter p k ≡ tokenSum (withEnd (mends bh .entries) (mends bh .last))
+      tokens-sum =
+          let x = mends bh in
+          omega (
+            arith,
+            sizes-of (plannedLines u lines p) refl (pl .reads-as) .1,
+            ap tokenSum (x .mended),
+            tokenSum-append (take (p .i) old) (new ++ drop (p .j) old),
+            tokenSum-append new (drop (p .j) old),
+            ap tokenSum (take-append-drop (p .j) old),
+            tokenSum-append (take (p .j) old) (drop (p .j) old),
+            k-is bh,
+            x .first-is,
+            x .from-is,
+          )
+
+      records-are : readLines barge u ≡ recorded (recordsOf (mends bh .entries) (mends bh .last))
+      unfolding readLines recordedBy
+      records-are = ap (recordedBy barge) (mends bh .reads-are)
+
+      lines-need : lineNeed (recordsOf (mends bh .entries) (mends bh .last) .head .m) ≡ 21 * linesAfter p m
+      unfolding recordsOf
+      lines-need = omega (arith, lines-sum)
+
+      tokens-need : tokenNeed (recordsOf (mends bh .entries) (mends bh .last) .head .k) ≡ 5 * tokensAfter p k
+      unfolding recordsOf
+      tokens-need = omega (arith, tokens-sum)
+
+      few-tokens : tokensAfter p k ≤ 2_097_152
+      unfolding recordsOf
+      few-tokens =
+          let s = fresh-small u (recordsOf (mends bh .entries) (mends bh .last)) small records-are in
+          omega (arith, tokens-sum, s .k-le, s .n-le)
+
+    short-lines : length lines < 21 * linesAfter p m → OnPaper pg ed (short linesBuffer (21 * linesAfter p m))
+    unfolding stored recordTests refusedIf firstOf unless
+    short-lines h spare fa =
+        let bh = faithful-behind fa in
+        rw (records-are bh, lines-need bh, lt-ltb (length lines) (21 * linesAfter p m) h) refl
+
+    short-tokens : 21 * linesAfter p m ≤ length lines → length tokens < 5 * tokensAfter p k → OnPaper pg ed (short tokensBuffer (5 * tokensAfter p k))
+    unfolding stored recordTests refusedIf firstOf unless
+    short-tokens l h spare fa =
+        let bh = faithful-behind fa in
+        rw (records-are bh, lines-need bh, tokens-need bh, le-ltb (length lines) (21 * linesAfter p m) l, lt-ltb (length tokens) (5 * tokensAfter p k) h) refl
+
+    pub roomed-is : PlanIs pg ed (roomed p m k (length lines) (length tokens))
+    roomed-is = go (ltb 2_097_152 (tokensAfter p k)) refl (ltb (length lines) (21 * linesAfter p m)) refl (ltb (length tokens) (5 * tokensAfter p k)) refl
+      where
+        go : (b1 : Bool) → ltb 2_097_152 (tokensAfter p k) ≡ b1 → (b2 : Bool) → ltb (length lines) (21 * linesAfter p m) ≡ b2 → (b3 : Bool) → ltb (length tokens) (5 * tokensAfter p k) ≡ b3
+            → PlanIs pg ed (if b1 then Unfit else if b2 then ShortLines (21 * linesAfter p m) else if b3 then ShortTokens (5 * tokensAfter p k) else Writes p)
+        go true e1 b2 e2 b3 e3 = λ spare fa. absurd (omega (arith, ltb-true 2_097_152 (tokensAfter p k) e1, few-tokens (faithful-behind fa)))
+        go false e1 true e2 b3 e3 = short-lines (ltb-true (length lines) (21 * linesAfter p m) e2)
+        go false e1 false e2 true e3 = short-tokens (ltb-false (length lines) (21 * linesAfter p m) e2) (ltb-true (length tokens) (5 * tokensAfter p k) e3)
+        go false e1 false e2 false e3 = (
+          pl,
+          (
+            record {
+              line-room = ltb-false (length lines) (21 * linesAfter p m) e2;
+              token-room = ltb-false (length tokens) (5 * tokensAfter p k) e3;
+              few = ltb-false 2_097_152 (tokensAfter p k) e1;
+            },
+            mends,
+          ),
+        )
+
+  -- The plan after reading again from line i on.
+  module _ (i base : ℕ) (bg : Begun text lines m k a i) (i-m : i ≤ m) (eb : base ≡ lineWord lines i 0) (inside-u : base ≤ length u) where
+    us : Usable lines i k a
+    us = usable-true lines i k a (bg .usable)
+
+    at-is : i ≡ countLF (take a t)
+    at-is = bg .i-is ∙ ap countLF (sym (take-take a n text (omega (arith, order, inside))))
+
+    abbrev z : State
+    z = stateFrom lines i
+
+    -- how much was read again
+    pub lines-small : (c x q : ℕ) (l : Lines (drop base u) z c x q) → (c ≤ q) × (x ≤ 16 + 2 * q) × (x + length (l .after .widths) ≤ 16 + 2 * q)
+    lines-small c x q l =
+        let rest : List ℕ = drop base u in
+        let s = read-sizes maxLevels z (take c (linesOf rest)) (l .es) (l .after) (l .reads-are) in
+        let e : total (take c (linesOf rest)) ≡ q = sym (s .1) ∙ l .bytes in
+        let to : ReadTo maxLevels z rest q (l .es) (l .after) = record {
+          lines = take c (linesOf rest);
+          split = sym (take-append-drop c (linesOf rest)) ∙ ap (λ (y : List (List ℕ)). take c (linesOf rest) ++ y) (drop-lines c rest ∙ ap (λ (i : ℕ). linesOf (drop i rest)) e);
+          reads-are = l .reads-are;
+          bytes = l .bytes;
+        } in
+        let g = read-grown maxLevels z rest q (l .es) (l .after) to in
+        let v : length (z .widths) ≤ 16 = omega (arith, length-take (lineWord lines i 4) (take 16 (drop (21 * i + 5) lines)), us .levels) in
+        (omega (arith, g .lines, l .count), omega (arith, g .tokens, l .tokens), omega (arith, g .tokens, l .tokens))
+
+    stop-planned : (c x q j : ℕ) (l : Lines (drop base u) z c x q) → q < length (drop base u) → j ≤ m → lineWord lines j 1 ≤ k → lineWord lines j 0 ≤ 4_294_967_295
+        → Planned u lines m k (stopPlan lines i base c x q j)
+    stop-planned c x q j l hq hj hk ho =
+        let v = lines-small c x q l in
+        record {
+          m-le = bg .m-le;
+          k-le = bg .k-le;
+          i-le = i-m;
+          number = omega (arith, us .number, eb);
+          base-le = inside-u;
+          depth = omega (arith, us .depth, eb);
+          levels = us .levels;
+          reads-as = subst (ReadsAs (stopPlan lines i base c x q j)) (sym (l .reads-are)) (l .count, l .tokens, ap (λ (y : ℕ). base + y) (l .bytes), sym (l .count), sym (l .tokens));
+          first-le = us .first;
+          from-le = hk;
+          j-le = omega (arith, hj);
+          old-le = ho;
+          lines-le = omega (arith, v .0, length-drop base u, small);
+          some = omega (arith, hj);
+        }
+
+    stop-mends : (c x q j : ℕ) (r : RereadIs (drop base u) lines base i m b (a + length w) z (Stops c x q j)) (bh : Behind t (pageRecords pg))
+        → Mends t lines (bh .entries) (bh .end) ed (stopPlan lines i base c x q j)
+    unfolding old-of
+    stop-mends c x q j r bh =
+        let o = old-of bh i at-is base eb in
+        let v = r .2 o in
+        let es : List Entry = bh .entries in
+        let end : State = bh .end in
+        let hj : j ≤ length es = omega (arith, v .3) in
+        let ti : take i (withEnd es end) ≡ take i es = take-append-le i es (endEntry end ∷ []) (omega (arith, i-m, m-is bh)) in
+        let tj : take j (withEnd es end) ≡ take j es = take-append-le j es (endEntry end ∷ []) hj in
+        let nl : newLines false (plannedLines u lines (stopPlan lines i base c x q j)) ≡ r .0 .es = ap (newLines false) (r .0 .reads-are) in
+        record {
+          entries = take i es ++ (r .0 .es ++ drop j es);
+          last = end;
+          reads-are = v .0;
+          mended = with-end es (r .0 .es) end i j hj ∙ (λ y. sym ti y ++ (sym nl y ++ drop j (withEnd es end)));
+          count = v .1;
+          first-is = first-of bh i i-m ∙ ap tokenSum (sym ti);
+          from-is = first-of bh j (omega (arith, hj, m-is bh)) ∙ ap tokenSum (sym tj);
+          base-is = eb ∙ start-of bh i i-m ∙ ap byteSum (sym ti);
+          old-is = start-of bh j (omega (arith, hj, m-is bh)) ∙ ap byteSum (sym tj);
+          new-is = ap (λ (y : ℕ). base + y) (sym (r .0 .bytes) ∙ ap byteSum (sym nl));
+        }
+
+    pub stop-plan : (c x q j : ℕ) → RereadIs (drop base u) lines base i m b (a + length w) z (Stops c x q j) → lineWord lines j 0 ≤ 4_294_967_295
+        → PlanIs pg ed (stopAnswer lines i base m k c x q j (length tokens))
+    stop-plan c x q j r ho = go (ltb k (lineWord lines j 1)) refl
+      where
+        go : (y : Bool) → ltb k (lineWord lines j 1) ≡ y → PlanIs pg ed (if y then Unfit else roomed (stopPlan lines i base c x q j) m k (length lines) (length tokens))
+        go true e = λ spare fa.
+            let bh = faithful-behind fa in
+            absurd (omega (arith, ltb-true k (lineWord lines j 1) e, first-of bh j (r .1 .1 .0), k-is bh, take-sum j (bh .entries), tokenSum-append (bh .entries) (endEntry (bh .end) ∷ [])))
+        go false e =
+            roomed-is (stopPlan lines i base c x q j) (stop-planned c x q j (r .0) (r .1 .0) (r .1 .1 .0) (ltb-false k (lineWord lines j 1) e) ho) (stop-mends c x q j r)
+
+    end-planned : (c x g : ℕ) (l : Lines (drop base u) z c x (length (drop base u))) → length (l .after .widths) ≡ g → n ≤ 4_294_967_295
+        → Planned u lines m k (endPlan lines i base m k n (length u) c x g)
+    unfolding tokenSum
+    end-planned c x g l hg hn =
+        let v = lines-small c x (length (drop base u)) l in
+        let e : length (withEnd (l .es) (l .after)) ≡ c + 1 = length-end (l .es) (l .after) ∙ omega (arith, l .count) in
+        let s : tokenSum (withEnd (l .es) (l .after)) ≡ x + g =
+        tokenSum-append (l .es) (endEntry (l .after) ∷ []) ∙ omega (arith, l .tokens, end-levels (l .after), hg) in
+        record {
+          m-le = bg .m-le;
+          k-le = bg .k-le;
+          i-le = i-m;
+          number = omega (arith, us .number, eb);
+          base-le = inside-u;
+          depth = omega (arith, us .depth, eb);
+          levels = us .levels;
+          reads-as = subst (ReadsAs (endPlan lines i base m k n (length u) c x g)) (sym (l .reads-are)) (l .count, l .tokens, omega (arith, l .bytes, length-drop base u, inside-u), sym e, sym s);
+          first-le = us .first;
+          from-le = omega arith;
+          j-le = omega arith;
+          old-le = hn;
+          lines-le = omega (arith, v .0, length-drop base u, small);
+          some = omega arith;
+        }
+
+    end-mends : (c x g : ℕ) (r : RereadIs (drop base u) lines base i m b (a + length w) z (Ends c x g)) (bh : Behind t (pageRecords pg))
+        → Mends t lines (bh .entries) (bh .end) ed (endPlan lines i base m k n (length u) c x g)
+    unfolding old-of
+    end-mends c x g r bh =
+        let o = old-of bh i at-is base eb in
+        let v = r .2 o in
+        let es : List Entry = bh .entries in
+        let end : State = bh .end in
+        let ti : take i (withEnd es end) ≡ take i es = take-append-le i es (endEntry end ∷ []) (omega (arith, i-m, m-is bh)) in
+        let le : length (withEnd es end) ≤ m + 1 = omega (arith, length-end es end, m-is bh) in
+        let tj : take (m + 1) (withEnd es end) ≡ withEnd es end = take-all (m + 1) (withEnd es end) le in
+        let dj : drop (m + 1) (withEnd es end) ≡ [] = drop-of-length-le (withEnd es end) {i = m + 1} le in
+        let nl : newLines true (plannedLines u lines (endPlan lines i base m k n (length u) c x g)) ≡ withEnd (r .0 .es) (r .0 .after) = ap (newLines true) (r .0 .reads-are) in
+        record {
+          entries = take i es ++ r .0 .es;
+          last = r .0 .after;
+          reads-are = v .0;
+          mended = append-assoc (take i es) (r .0 .es) (endEntry (r .0 .after) ∷ []) ∙ ap (λ (y : List Entry). take i es ++ y) (sym (append-nil (withEnd (r .0 .es) (r .0 .after))))
+              ∙ (λ y. sym ti y ++ (sym nl y ++ sym dj y));
+          count = v .1;
+          first-is = first-of bh i i-m ∙ ap tokenSum (sym ti);
+          from-is = k-is bh ∙ ap tokenSum (sym tj);
+          base-is = eb ∙ start-of bh i i-m ∙ ap byteSum (sym ti);
+          old-is = n-is bh ∙ sym (sum-end es end) ∙ ap byteSum (sym tj);
+          new-is = omega (arith, length-drop base u, inside-u, r .0 .bytes, sum-end (r .0 .es) (r .0 .after), ap byteSum nl);
+        }
+
+    pub end-plan : (c x g : ℕ) → RereadIs (drop base u) lines base i m b (a + length w) z (Ends c x g) → n ≤ 4_294_967_295
+        → PlanIs pg ed (roomed (endPlan lines i base m k n (length u) c x g) m k (length lines) (length tokens))
+    end-plan c x g r hn =
+        roomed-is (endPlan lines i base m k n (length u) c x g) (end-planned c x g (r .0) (r .1) hn) (end-mends c x g r)
+
+    -- the same, as the code has the rest of the text and the state
+    pub reread-as : (rest : List ℕ) (y : State) (r : Reread) → rest ≡ drop base u → y ≡ z → RereadIs rest lines base i m b (a + length w) y r
+        → RereadIs (drop base u) lines base i m b (a + length w) z r
+    reread-as rest y r er ey h =
+        subst (λ (s : State). RereadIs (drop base u) lines base i m b (a + length w) s r) ey (subst (λ (l : List ℕ). RereadIs l lines base i m b (a + length w) y r) er h)
+
+    halted : (h : Halt) (es : List Entry) → readFrom maxLevels initial (linesOf u) ≡ halts es h → readLines barge u ≡ unread (haltRefusal barge (byteSum es) (suc (length es)) h)
+    unfolding readLines recordedBy
+    halted h es e = ap (recordedBy barge) e
+
+    pub fail-plan : (r : FailureRecord) → RereadIs (drop base u) lines base i m b (a + length w) z (Fails r) → OnPaper pg ed (reading (lexical (recordOut r)))
+    unfolding old-of stored haltRefusal
+    fail-plan r h spare fa =
+        let v = h (old-of (faithful-behind fa) i at-is base eb) in
+        ap (stored (record { text = length text; spare = spare; lines = length lines; tokens = length tokens }) (rereadCount t ed)) (halted (failed (v .1)) (v .0) (v .2))
+        ∙ ap (λ (y : FailureRecord). late (reading (lexical (recordOut y)))) (sym (v .3))
+
+    pub deep-plan : (l : ℕ) → RereadIs (drop base u) lines base i m b (a + length w) z (TooDeep l) → OnPaper pg ed (reading (atLine 4 l))
+    unfolding old-of stored haltRefusal
+    deep-plan l h spare fa =
+        let v = h (old-of (faithful-behind fa) i at-is base eb) in
+        ap (stored (record { text = length text; spare = spare; lines = length lines; tokens = length tokens }) (rereadCount t ed)) (halted overLimit (v .0) (v .1))
+        ∙ ap (λ (y : ℕ). late (reading (atLine 4 y))) (sym (v .2))
+
+  -- the edited text holds its first a bytes and w
+  pub edited-holds : a + length w ≤ length u
+  edited-holds = omega (arith, length-edited t ed (omega (arith, long, order, inside)))

@@ -1,0 +1,110 @@
+-- Laws of LFs counted, and of a record's words tested one after the other.
+-- Assumes nothing.
+use Prim.Native.Nat.{ℕ, zero, suc, _+_, _*_, _≤_, _<_}
+use mathlib.Core.Path.{_≡_, refl, sym, ap, _∙_}
+use mathlib.Core.Bool.{Bool, true, false, _&&_}
+use mathlib.Core.List.{List, [], _∷_, _++_, append-nil}
+use native.Mathlib.Omega.{arith}
+use native.Mathlib.Numerals.{add-one}
+use lib.Dec.{leb, eqb}
+use lib.ListN.{length, getD, take, length-take, drop-of-length-le}
+use lib.Seq.{take-suc, sets, sets-eq}
+use mir.Val.{boolByte}
+use borrow.Author.Tests.{le-leb, lt-leb, leb-true}
+use Rattle.rules.specs.Lists.{if_then_else_, bit}
+use Rattle.rules.specs.Reading.{isLF, countLF}
+use Rattle.rules.proofs.ListLaws.{and-true}
+use Rattle.planning.specs.Starts.{lineWord, isUsable}
+
+one-more : (xs : List ℕ) (b : ℕ) → countLF (xs ++ (b ∷ [])) ≡ countLF xs + bit (eqb b 10)
+unfolding countLF
+one-more [] b = go (eqb b 10)
+  where
+    go : (x : Bool) → (if x then 1 else 0) ≡ 0 + bit x
+    go true = refl
+    go false = refl
+one-more (x ∷ xs) b = go (eqb x 10) (one-more xs b)
+  where
+    go : (y : Bool) → countLF (xs ++ (b ∷ [])) ≡ countLF xs + bit (eqb b 10)
+        → (if y then suc (countLF (xs ++ (b ∷ []))) else countLF (xs ++ (b ∷ []))) ≡ (if y then suc (countLF xs) else countLF xs) + bit (eqb b 10)
+    go true e = omega (arith, e)
+    go false e = e
+
+pub count-more : (t : List ℕ) (x : ℕ) → x < length t → countLF (take (x + 1) t) ≡ countLF (take x t) + bit (eqb (getD t x 0) 10)
+count-more t x h = ap countLF (ap (λ (n : ℕ). take n t) (add-one x) ∙ take-suc t x 0 h) ∙ one-more (take x t) (getD t x 0)
+
+pub count-le : (xs : List ℕ) → countLF xs ≤ length xs
+unfolding countLF
+count-le [] = omega arith
+count-le (x ∷ xs) = go (eqb x 10) (count-le xs)
+  where
+    go : (y : Bool) → countLF xs ≤ length xs → (if y then suc (countLF xs) else countLF xs) ≤ suc (length xs)
+    go true e = omega (arith, e)
+    go false e = omega (arith, e)
+
+module _ (lines : List ℕ) (i k a : ℕ) where
+  -- what the tests say of the record
+  pub record Usable : Type 0 where
+    pub start : lineWord lines i 0 ≤ a
+    pub number : i ≤ lineWord lines i 0
+    pub first : lineWord lines i 1 ≤ k
+    pub depth : lineWord lines i 2 ≤ lineWord lines i 0
+    pub levels : lineWord lines i 4 ≤ 16
+
+  pub usable-true : isUsable lines i k a ≡ true → Usable
+  usable-true h =
+      let x1 = and-true (leb (lineWord lines i 0) a) _ h in
+      let x2 = and-true (leb i (lineWord lines i 0)) _ (x1 .1) in
+      let x3 = and-true (leb (lineWord lines i 1) k) _ (x2 .1) in
+      let x4 = and-true (leb (lineWord lines i 2) (lineWord lines i 0)) _ (x3 .1) in
+      record {
+        start = leb-true (lineWord lines i 0) a (x1 .0);
+        number = leb-true i (lineWord lines i 0) (x2 .0);
+        first = leb-true (lineWord lines i 1) k (x3 .0);
+        depth = leb-true (lineWord lines i 2) (lineWord lines i 0) (x4 .0);
+        levels = leb-true (lineWord lines i 4) 16 (x4 .1);
+      }
+
+  pub true-usable : Usable → isUsable lines i k a ≡ true
+  true-usable u =
+      rw (
+        le-leb (lineWord lines i 0) a (u .start),
+        le-leb i (lineWord lines i 0) (u .number),
+        le-leb (lineWord lines i 1) k (u .first),
+        le-leb (lineWord lines i 2) (lineWord lines i 0) (u .depth),
+        le-leb (lineWord lines i 4) 16 (u .levels),
+      )
+
+  -- the tests, one after the other
+  pub not-start : a < lineWord lines i 0 → isUsable lines i k a ≡ false
+  not-start h = rw (lt-leb (lineWord lines i 0) a h)
+
+  module _ (s : lineWord lines i 0 ≤ a) where
+    pub not-number : lineWord lines i 0 < i → isUsable lines i k a ≡ false
+    not-number h = rw (le-leb (lineWord lines i 0) a s, lt-leb i (lineWord lines i 0) h)
+
+    module _ (n : i ≤ lineWord lines i 0) where
+      pub not-first : k < lineWord lines i 1 → isUsable lines i k a ≡ false
+      not-first h = rw (le-leb (lineWord lines i 0) a s, le-leb i (lineWord lines i 0) n, lt-leb (lineWord lines i 1) k h)
+
+      module _ (f : lineWord lines i 1 ≤ k) where
+        pub not-depth : lineWord lines i 0 < lineWord lines i 2 → isUsable lines i k a ≡ false
+        not-depth h =
+            rw (le-leb (lineWord lines i 0) a s, le-leb i (lineWord lines i 0) n, le-leb (lineWord lines i 1) k f, lt-leb (lineWord lines i 2) (lineWord lines i 0) h)
+
+        pub only-levels : lineWord lines i 2 ≤ lineWord lines i 0 → isUsable lines i k a ≡ leb (lineWord lines i 4) 16
+        only-levels h =
+            rw (le-leb (lineWord lines i 0) a s, le-leb i (lineWord lines i 0) n, le-leb (lineWord lines i 1) k f, le-leb (lineWord lines i 2) (lineWord lines i 0) h)
+
+-- as many words over a buffer are the buffer
+pub sets-whole : (l vs : List ℕ) → length vs ≡ length l → sets l 0 vs ≡ vs
+sets-whole l vs h =
+    sets-eq vs l 0 (omega arith) ∙ ap (λ (x : List ℕ). vs ++ x) (drop-of-length-le l {i = 0 + length vs} (omega arith)) ∙ append-nil vs
+
+pub byte-bit : (b : Bool) → boolByte b ≡ bit b
+byte-bit true = refl
+byte-bit false = refl
+
+pub bit-le : (b : Bool) → bit b ≤ 1
+bit-le true = omega arith
+bit-le false = omega arith
