@@ -1,0 +1,95 @@
+// The records of an accepted edit, written by its plan.
+ghost use mathlib.Core.Path.{_≡_};
+ghost use mathlib.Core.Bool.{true};
+ghost use Prim.Native.Nat.{_+_, _-_, _*_, _≤_, _<_};
+ghost use lib.ListN.{length};
+ghost use lib.Seq.{sets};
+ghost use Rattle.laws.specs.Puts.{putIf};
+ghost use Rattle.rules.specs.Line.{dedents};
+ghost use Rattle.rules.specs.Records.{lineRecord, tokenWords};
+ghost use Rattle.line.specs.States.{stateOf};
+ghost use Rattle.planning.specs.Plans.{Planned, Roomy};
+ghost use Rattle.writing.specs.Writes.{lineTail, tokenTail};
+
+// The end's record and its Dedents, where the plan ends there.
+fn put_end(lines: &mut [u32], tokens: &mut [u32], p: planning::Plan, s: line::State, widths: &[u32])
+    requires { ⌜ (length (now widths) ≡ 16) × (s .levels ≤ 16) ⌝ }
+    requires { ⌜ (p .i ≤ 1_048_576) × ((p .count ≤ 1_048_577) × ((p .new ≤ 1_048_576) × (p .first + p .read ≤ 2_097_152))) ⌝ }
+    requires { ⌜ (p .ends ≡ true → (21 * (p .i + p .count) + 21 ≤ length (now lines)) × (5 * (p .first + p .read + s .levels) ≤ length (now tokens))) ⌝ }
+    ensures { λ _. ⌜ now (lines .exit) ≡ putIf (p .ends) (now (lines .entry)) (21 * (p .i + p .count)) (lineRecord (p .new) (p .first + p .read) (stateOf s (now (widths .entry)))) ⌝ }
+    ensures { λ _. ⌜ now (tokens .exit) ≡ putIf (p .ends) (now (tokens .entry)) (5 * (p .first + p .read)) (tokenWords (p .new) (p .i + p .count + 1) (dedents (s .levels))) ⌝ }
+{
+    let line = p.i + p.count;
+    let token = p.first + p.read;
+    reading::put_line(lines, p.ends, line, p.new as u32, token as u32, s, widths);
+    line::put_dedents(
+        tokens,
+        p.ends,
+        token,
+        s.levels,
+        p.new as u32,
+        line as u32 + 1,
+    );
+}
+
+// The kept records are moved, and the lines read again are written before them.
+pub fn write_records(
+    edited: &[u8],
+    lines: &mut [u32],
+    tokens: &mut [u32],
+    m: usize,
+    k: usize,
+    p: planning::Plan,
+)
+    requires { ⌜ (length (now edited) ≤ 1_048_576) × ((21 * (m + 1) ≤ length (now lines)) × (5 * k ≤ length (now tokens))) ⌝ }
+    requires { ⌜ Planned (now edited) (now lines) m k p ⌝ }
+    requires { ⌜ Roomy m k (length (now lines)) (length (now tokens)) p ⌝ }
+    ensures { λ _. ⌜ now (lines .exit) ≡ sets (now (lines .entry)) (21 * p .i) (lineTail (now (edited .entry)) (now (lines .entry)) m p) ⌝ }
+    ensures { λ _. ⌜ now (tokens .exit) ≡ sets (now (tokens .entry)) (5 * p .first) (tokenTail (now (edited .entry)) (now (lines .entry)) (now (tokens .entry)) k p) ⌝ }
+{
+    let mut widths: [u32; 16] = [0; 16];
+    let s = planning::load_state(lines, p.i, &mut widths);
+    moving::move_tokens(
+        tokens,
+        p.from,
+        p.first + p.tokens,
+        k - p.from,
+        p.old as u32,
+        p.new as u32,
+        p.j as u32 + 1,
+        (p.i + p.lines) as u32 + 1,
+    );
+    moving::move_lines(
+        lines,
+        p.j,
+        p.i + p.lines,
+        m + 1 - p.j,
+        p.old as u32,
+        p.new as u32,
+        p.from as u32,
+        (p.first + p.tokens) as u32,
+    );
+    let class = spelling::class_table();
+    let reach = spelling::reach_table();
+    let index = spelling::sign_index();
+    let signs = spelling::sign_table();
+    let keywords = spelling::keyword_table();
+    let base = p.base;
+    let z = rereading::rewrite_lines(
+        &class,
+        &reach,
+        &index,
+        &signs,
+        &keywords,
+        &edited[base..],
+        lines,
+        tokens,
+        base,
+        p.i,
+        p.first,
+        p.count,
+        &mut widths,
+        s,
+    );
+    put_end(lines, tokens, p, z, &widths);
+}
