@@ -1,0 +1,4 @@
+pub mod FreshPages
+pub mod Mended
+pub mod Edits
+pub mod PageHistory
