@@ -10,8 +10,8 @@ use Rattle.lexpage.proofs.put_read.Tie as tie
 enum-known-r : tie.Need-enum-known-r
 enum-known-r c = search needs
 
-put-header-requires : tie.Need-put-header-requires
-put-header-requires c κs = search needs
+put-four-requires : tie.Need-put-four-requires
+put-four-requires c κs = search needs
 
 enum-known-r-2 : tie.Need-enum-known-r-2
 enum-known-r-2 c = search needs
@@ -50,7 +50,7 @@ put-three-requires-2 : tie.Need-put-three-requires-2
 put-three-requires-2 c κs = search needs
 
 returns : tie.Need-returns
-returns c = told-as _ _ _ _ _ (ap readNumbers (sym (c .before .before .before .r .given .1))) (c .put-header .ensures)
+returns c = told-as _ _ _ _ _ (ap readNumbers (sym (c .before .before .before .r .given .1))) (c .put-four .ensures)
 
 returns-2 : tie.Need-returns-2
 returns-2 c = told-as _ _ _ _ _ (ap readNumbers (sym (c .before .before .before .r2 .given .1))) (c .put-two .ensures)
@@ -75,7 +75,7 @@ put-read-spec =
     tie.close
     (tie.spec
     enum-known-r
-    put-header-requires
+    put-four-requires
     enum-known-r-2
     put-two-requires
     enum-known-r-3
