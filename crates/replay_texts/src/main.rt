@@ -1,0 +1,4 @@
+// Holds the code against the recorded texts.
+fn main() {
+    replay::replay_input();
+}
