@@ -1,6 +1,7 @@
 // Holds the proved library against the oracle: one case of `oracle/cases N SEED texts` a line on standard input.
 // For each: the reply and the records with ample buffers, the words past them, the same with buffers that are
-// exactly long enough and one word short, the message with an ample, an exact and a short buffer, and the byte literal's value. The last line is `N passed, M failed`.
+// exactly long enough and one word short, the message with an ample, an exact and a short buffer, the byte literal's
+// value, and the panel column of every offset to one past the end and of some far ones. The last line is `N passed, M failed`.
 // The argument is the least number of cases that must have come.
 use std::io::{self, BufRead};
 
@@ -8,6 +9,7 @@ use std::io::{self, BufRead};
 extern "C" {
     fn lexpage_read(text: *const u8, text_len: usize, lines: *mut u32, lines_len: usize, tokens: *mut u32, tokens_len: usize, reply: *mut u64) -> u64;
     fn lexpage_report(text: *const u8, text_len: usize, out: *mut u8, out_len: usize, reply: *mut u64) -> u64;
+    fn lexpage_panel_column(text: *const u8, text_len: usize, offset: usize, reply: *mut u64) -> u64;
     fn lexpage_byte_value(text: *const u8, text_len: usize, reply: *mut u64) -> u64;
 }
 
@@ -66,6 +68,20 @@ fn byte_value(text: &[u8]) -> Vec<u64> {
     words(&reply, count)
 }
 
+fn panel_column(text: &[u8], offset: usize) -> Vec<u64> {
+    let mut reply = [REPLY_FILL; 16];
+    let count = unsafe { lexpage_panel_column(text.as_ptr(), text.len(), offset, reply.as_mut_ptr()) };
+    words(&reply, count)
+}
+
+// The panel columns of the offsets 0 to n + 1, one reply after another; all further offsets are answered as n + 1 is.
+fn columns_hold(text: &[u8], columns: &[Vec<u64>]) -> bool {
+    let outside = &columns[text.len() + 1];
+    let far = [text.len() + 2, 2 * text.len() + 3, 1 << 32, usize::MAX];
+    columns.iter().enumerate().all(|(offset, column)| panel_column(text, offset) == *column)
+        && far.iter().all(|offset| panel_column(text, *offset) == *outside)
+}
+
 fn bytes(field: &str) -> Vec<u8> {
     if field == "-" {
         return Vec::new();
@@ -94,9 +110,10 @@ fn holds(case: &str) -> bool {
     let tokens = group(&mut fields);
     let message = bytes(fields.next().unwrap());
     let value = group(&mut fields);
+    let columns: Vec<Vec<u64>> = (0..text.len() + 2).map(|_| group(&mut fields)).collect();
     let ample = read(&text, 21 * (text.len() + 2) + 3, 10 * text.len() + 7);
     let mut good = ample.reply == reply && front(&ample.lines, &lines) && front(&ample.tokens, &tokens) && byte_value(&text) == value;
-    good &= message_holds(&text, &reply, &message);
+    good &= message_holds(&text, &reply, &message) && columns_hold(&text, &columns) && fields.next().is_none();
     if reply[0] == 0 {
         let exact = read(&text, lines.len(), tokens.len());
         good &= exact.reply == reply && front(&exact.lines, &lines) && front(&exact.tokens, &tokens);

@@ -2,6 +2,7 @@
 
 use crate::generate::calls::Calls;
 use crate::generate::edits::{Edit, History};
+use crate::generate::lists::{recorded_histories, recorded_texts, ALTERED};
 use crate::page::{byte_value, header_reply, message, panel_column, scan_output, walk_step, Page};
 use crate::reading::{fresh_reading, Reply};
 
@@ -20,8 +21,15 @@ fn group<T: ToString>(numbers: &[T]) -> String {
     fields.join(" ")
 }
 
-/// A text with its reading, its message and its byte-literal value, as one line without its LF.
-pub fn text_case(text: &[u8]) -> String {
+/// The panel columns at the offsets 0 to n + 1, a group for each reply.
+fn columns(text: &[u8]) -> String {
+    let offsets = 0..=text.len() as u64 + 1;
+    let groups = offsets.map(|offset| group(&panel_column(text, offset)));
+    groups.collect::<Vec<_>>().join(" ")
+}
+
+/// A text with its reading, its message, its byte-literal value and its panel columns.
+fn text_fields(text: &[u8]) -> [String; 7] {
     let reading = fresh_reading(text);
     let (reply, lines, tokens): (Reply, &[u32], &[u32]) = match &reading {
         Ok(reading) => (header_reply(reading), &reading.lines, &reading.tokens),
@@ -34,8 +42,43 @@ pub fn text_case(text: &[u8]) -> String {
         group(tokens),
         hex(&message(text).unwrap_or_default()),
         group(&byte_value(text)),
+        columns(text),
     ]
-    .join(" ")
+}
+
+/// A text with its answers, as one line without its LF.
+pub fn text_case(text: &[u8]) -> String {
+    text_fields(text).join(" ")
+}
+
+/// A text with its answers, where the last digit of one of the fields above is another.
+fn altered_case(text: &[u8], field: usize) -> String {
+    let mut fields = text_fields(text);
+    let digit = fields[field].pop();
+    fields[field].push(if digit == Some('0') { '1' } else { '0' });
+    fields.join(" ")
+}
+
+/// Each text that is altered with its true answers, and then with a wrong one.
+fn altered_cases() -> Vec<String> {
+    let pair = |(text, field): &(&[u8], usize)| [text_case(text), altered_case(text, *field)];
+    ALTERED.iter().flat_map(pair).collect()
+}
+
+/// The lines of the recorded list of this name, without their LFs.
+pub fn recorded(list: &str) -> Option<Vec<String>> {
+    let histories = || {
+        recorded_histories()
+            .iter()
+            .flat_map(history_cases)
+            .collect()
+    };
+    match list {
+        "texts" => Some(recorded_texts().iter().map(|t| text_case(t)).collect()),
+        "altered" => Some(altered_cases()),
+        "edits" => Some(histories()),
+        _ => None,
+    }
 }
 
 /// The 64-bit FNV-1a digest of text, spare, lines and tokens, words as four bytes, lowest first.

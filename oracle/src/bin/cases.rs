@@ -9,11 +9,18 @@ use std::process::ExitCode;
 /// The most edits of a generated list.
 const MOST_EDITS: usize = 10;
 
+/// The most small changes in a generated script.
+const MOST_CHANGES: usize = 40;
+
 /// The lines of one generated text, list of edits, or page with calls.
 fn case_lines(random: &mut Random, list: &str) -> Vec<String> {
     match list {
         "texts" => vec![text_case(&texts::small(random))],
         "calls" => vec![call_case(&calls::calls(random))],
+        "scripts" => {
+            let changes = 1 + random.below(MOST_CHANGES);
+            history_cases(&edits::script_history(random, changes))
+        }
         _ => {
             let length = 1 + random.below(MOST_EDITS);
             history_cases(&edits::history(random, length))
@@ -39,16 +46,18 @@ fn parsed(arguments: &[String]) -> Option<(u64, u64, &str)> {
         return None;
     };
     match list.as_str() {
-        "texts" | "edits" | "calls" => Some((count.parse().ok()?, seed.parse().ok()?, list)),
+        "texts" | "edits" | "scripts" | "calls" => {
+            Some((count.parse().ok()?, seed.parse().ok()?, list))
+        }
         _ => None,
     }
 }
 
-/// cases N SEED texts|edits|calls
+/// cases N SEED texts|edits|scripts|calls
 fn main() -> ExitCode {
     let arguments: Vec<String> = env::args().skip(1).collect();
     let Some((count, seed, list)) = parsed(&arguments) else {
-        eprintln!("usage: cases N SEED texts|edits|calls");
+        eprintln!("usage: cases N SEED texts|edits|scripts|calls");
         return ExitCode::from(2);
     };
     match write_cases(count, seed, list) {

@@ -161,14 +161,14 @@ fn lengths(random: &mut Random, most: Lengths) -> Lengths {
     lengths
 }
 
-/// A list of so many edits, each made for the text it meets.
-pub fn history(random: &mut Random, count: usize) -> History {
+/// A list of so many edits, each made from its number and the text it meets.
+fn made(random: &mut Random, count: usize, next: fn(&mut Random, usize, &[u8]) -> Edit) -> History {
     let mut page = Page::with_lengths(AMPLE);
     page.fresh();
     let mut most = needs(&page);
     let mut edits = Vec::new();
-    for _ in 0..count {
-        let edit = edit(random, &page.text[..page.n as usize]);
+    for number in 0..count {
+        let edit = next(random, number, &page.text[..page.n as usize]);
         edit.apply(&mut page);
         let now = needs(&page);
         most.text = most.text.max(now.text);
@@ -179,6 +179,52 @@ pub fn history(random: &mut Random, count: usize) -> History {
     }
     let lengths = lengths(random, most);
     History { lengths, edits }
+}
+
+/// A list of so many edits of any kind.
+pub fn history(random: &mut Random, count: usize) -> History {
+    made(random, count, |random, _, text| edit(random, text))
+}
+
+/// How many edits of a script's list put lines at its end, before the others change them.
+pub const APPENDED: usize = 8;
+
+/// A list of edits that writes a script and then makes so many small changes in it.
+pub fn script_history(random: &mut Random, changes: usize) -> History {
+    made(random, APPENDED + changes, |random, number, text| {
+        if number < APPENDED {
+            let mut w = texts::script(random, 1_000);
+            w.push(b'\n');
+            return Edit::new(text.len(), text.len(), &w);
+        }
+        change(random, text)
+    })
+}
+
+/// Inside the indentation of a line, or at one of its ends.
+fn indented_place(random: &mut Random, text: &[u8]) -> usize {
+    let at = random.below(text.len() + 1);
+    let before = text[..at].iter().rposition(|byte| *byte == b'\n');
+    let start = before.map_or(0, |before| before + 1);
+    let blanks = text[start..]
+        .iter()
+        .take_while(|byte| b" \t\r".contains(byte));
+    start + random.below(blanks.count() + 1)
+}
+
+/// An insertion, or some bytes or the rest of a line with its LF replaced or taken out.
+fn change(random: &mut Random, text: &[u8]) -> Edit {
+    let a = match random.below(3) {
+        0 => indented_place(random, text),
+        _ => place(random, text),
+    };
+    let line_end = text[a..].iter().position(|byte| *byte == b'\n');
+    let b = match random.below(8) {
+        0..=3 => a,
+        4..=6 => text.len().min(a + 1 + random.below(3)),
+        _ => line_end.map_or(text.len(), |further| a + further + 1),
+    };
+    Edit::new(a, b, &insertion(random))
 }
 
 /// Each of these edits, all proper, on the base text, and after an accepted one its inverse.

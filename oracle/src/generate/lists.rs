@@ -49,6 +49,17 @@ pub fn recorded_texts() -> Vec<Vec<u8>> {
     all
 }
 
+/// Texts with one of the fields that are recorded of them, to show that a wrong one is found: reply, line words, token words,
+/// message, byte-literal value, panel columns.
+pub const ALTERED: [(&[u8], usize); 6] = [
+    (b"b'a'", 1),
+    (b"b'a'", 2),
+    (b"b'a'", 3),
+    (b"a & b", 4),
+    (b"b'a'", 5),
+    (b"b'a'", 6),
+];
+
 /// A list of edits on a page with ample buffers.
 fn listed(edits: &[(usize, usize, &[u8])]) -> History {
     let edit = |(a, b, w): &(usize, usize, &[u8])| Edit::new(*a, *b, w);

@@ -5,6 +5,7 @@ mod free_edits;
 mod pages_by_hand;
 mod probes;
 mod readings_by_hand;
+mod replayed;
 mod tally;
 mod text_laws;
 
@@ -16,6 +17,7 @@ use tally::Tally;
 /// How many texts, lists of edits and edits of unfaithful pages are generated.
 const TEXTS: usize = 60_000;
 const HISTORIES: usize = 8_000;
+const SCRIPT_HISTORIES: usize = 100;
 const FREE_EDITS: usize = 20_000;
 
 /// Every short text over the alphabets.
@@ -69,6 +71,9 @@ fn histories(tally: &mut Tally) {
     for _ in 0..FREE_EDITS {
         free_edits::check(tally, &mut random);
     }
+    for _ in 0..SCRIPT_HISTORIES {
+        edit_laws::check(tally, &edits::script_history(&mut random, 30));
+    }
 }
 
 /// Last line `N passed, 0 failed`, and the exit status by it.
@@ -85,6 +90,8 @@ fn main() -> ExitCode {
     tally.end_of_part("every short byte string");
     histories(&mut tally);
     tally.end_of_part("lists of edits");
+    replayed::check(&mut tally);
+    tally.end_of_part("recorded lists");
     tally.expect_all_reached();
     match tally.conclude() {
         true => ExitCode::SUCCESS,
