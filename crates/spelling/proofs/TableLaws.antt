@@ -4,16 +4,19 @@ use Prim.Native.Nat.{ℕ, _+_, _-_, _*_, _/_, _%_, _≤_, _<_}
 use mathlib.Core.Path.{_≡_, refl, sym, ap, _∙_}
 use mathlib.Core.List.{List, [], _∷_}
 use native.Mathlib.Omega.{arith}
-use lib.Dec.{T, leb, leb→le}
+use lib.Dec.{T, leb, leb→le, eqb}
+use mathlib.Core.Option.{some}
+use Rattle.rules.specs.Lists.{if_then_else_, begins}
 use lib.ListN.{length, getD}
+use borrow.Author.Tests.{eq-eqb}
 use Rattle.laws.specs.Blocks.{table}
 use Rattle.laws.proofs.Below.{below, at, entry}
 use Rattle.rules.specs.Kinds.{Ident}
 use Rattle.rules.specs.Tables.{Spelling, keywords, signs, wordKind, tableRules}
 use Rattle.spelling.specs.declared.Spelled.{Spelled}
-use Rattle.spelling.specs.declared.Spelled.the-variants.{Unspelled}
+use Rattle.spelling.specs.declared.Spelled.the-variants.{Kind, Unspelled}
 use Rattle.spelling.specs.Rows.{rowsFrom, findIn, spelledOf, ofLength, startingWith, keywordTable, keywordStarts, signTable, signRows, signIndexTable, rowRules}
-use Rattle.spelling.proofs.GroupLaws.{long-word}
+use Rattle.spelling.proofs.GroupLaws.{find-starting, long-word}
 
 -- rows of a table that can be searched, and the spellings that they hold
 pub record Group (t : List ℕ) (from to : ℕ) (ks : List Spelling) : Type 0 where
@@ -77,6 +80,41 @@ rows-small e b h = rw (e, entry signRows 256 b 0 h) (omega (arith, rows-inside b
 pub sign-group : {x t : List ℕ} → x ≡ signIndexTable → t ≡ signTable → (b : ℕ) → b < 256 → Group t (getD x b 0 / 5) (getD x b 0 / 5 + getD x b 0 % 5) (startingWith b signs)
 unfolding tableRules rowRules
 sign-group ex et b h = rw (ex, et, entry signRows 256 b 0 h) (group 41 tt tt (rows-inside b h) (sign-rows b h))
+
+-- a byte that begins one sign only is that sign
+abbrev loneSign : ℕ → Spelling
+loneSign b = record { bytes = b ∷ []; kind = getD signTable (11 * (signRows b / 5) + 1) 0 }
+
+lone-row : (b : ℕ) → b < 256 → signRows b % 5 ≡ 1 → startingWith b signs ≡ loneSign b ∷ []
+unfolding tableRules rowRules
+lone-row b h e = by-table (λ m. startingWith m signs) (λ m. if eqb (signRows m % 5) 1 then loneSign m ∷ [] else startingWith m signs) 256 [] refl b h ∙ rw e
+
+begins-so : (b : ℕ) (s : List ℕ) (kind : ℕ) → let z : Spelling = record { bytes = b ∷ []; kind = kind } in findIn (z ∷ []) (b ∷ s) ≡ some z
+unfolding findIn begins
+begins-so b s kind = rw (eq-eqb b b refl)
+
+lone-entry : {x : List ℕ} → x ≡ signIndexTable → (b : ℕ) → b < 256 → getD x b 0 ≡ signRows b
+unfolding signIndexTable
+lone-entry e b h = rw e (entry signRows 256 b 0 h)
+
+pub lone-inside : {x : List ℕ} → x ≡ signIndexTable → (b : ℕ) → b < 256 → getD x b 0 % 5 ≡ 1 → 11 * (getD x b 0 / 5) + 1 < 451
+lone-inside e b h q =
+    let i = lone-entry e b h in
+    rw i (omega (arith, rows-inside b h, ap (λ (n : ℕ). n % 5) (sym i) ∙ q))
+
+-- a number of the table
+pub word-small : {t : List ℕ} → t ≡ signTable → (i : ℕ) → i < 451 → getD t i 0 < 256
+unfolding tableRules rowRules
+word-small e i h = rw e (omega (arith, leb→le (getD signTable i 0) 255 (at (λ m. leb (getD signTable m 0) 255) 451 tt i h)))
+
+pub lone-sign : {x t : List ℕ} → x ≡ signIndexTable → t ≡ signTable → (s : List ℕ) → 0 < length s → getD s 0 0 < 256 → getD x (getD s 0 0) 0 % 5 ≡ 1
+    → Kind (getD t (11 * (getD x (getD s 0 0) 0 / 5) + 1) 0) 1 ≡ spelledOf (findIn signs s)
+unfolding spelledOf
+lone-sign ex et [] h k e = absurd (omega arith)
+lone-sign ex et (b ∷ s) h k e =
+    let i = lone-entry ex b k in
+    let f = sym (find-starting (b ∷ s) h signs) ∙ ap (λ (ks : List Spelling). findIn ks (b ∷ s)) (lone-row b k (ap (λ (n : ℕ). n % 5) (sym i) ∙ e)) ∙ begins-so b s _ in
+    rw (et, i) (sym (ap spelledOf f))
 
 pub no-sign : (s : List ℕ) → length s ≡ 0 → spelledOf (findIn signs s) ≡ Unspelled
 unfolding tableRules rowRules

@@ -319,7 +319,7 @@ pub fn sign_index() -> [u8; 256]
     SIGN_ROWS
 }
 
-// The first sign, longest first, that `s` begins with.
+// The first sign, longest first, that `s` begins with. A byte that begins one sign only is that sign.
 pub fn sign_at(index: &[u8; 256], table: &[u8; 451], s: &[u8]) -> Spelled
     requires { ⌜ now index ≡ signIndexTable ⌝ }
     requires { ⌜ now table ≡ signTable ⌝ }
@@ -331,6 +331,9 @@ pub fn sign_at(index: &[u8; 256], table: &[u8; 451], s: &[u8]) -> Spelled
     let b = s[0];
     let rows = index[b as usize] as usize;
     let from = rows / 5;
+    if rows % 5 == 1 {
+        return Spelled::Kind(table[11 * from + 1] as u32, 1);
+    }
     let to = from + rows % 5;
     find_spelling(table, from, to, s)
 }
