@@ -139,7 +139,7 @@ fn same_cuts(
     let mut open = depth;
     let mut arrow = false;
     while at < line.len() {
-        match cut::next_token(class, reach, index, signs, keywords, line, at, true) {
+        match cut::cut_by_class(class, reach, index, signs, keywords, line, at, true) {
             cut::Cut::Blank => {
                 at += 1;
                 continue;

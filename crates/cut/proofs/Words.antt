@@ -17,7 +17,7 @@ use Rattle.rules.specs.Cut.{Cut, token, inWord, wordCut, numberCut, stringEnd, 
 use Rattle.rules.proofs.ListLaws.{if-by, and-true}
 use Rattle.spelling.specs.Bytes.{reaches}
 use Rattle.spelling.proofs.ReachLaws.{run-word}
-use Rattle.cut.specs.Cuts.{plainKind, plainCut, cutNamed}
+use Rattle.cut.specs.Cuts.{plainKind, plainCut, cutNamed, commentOr}
 
 -- Words.
 
@@ -104,8 +104,11 @@ sign-plain s (k ∷ ks) e =
     let p = and-true (leb Ident (k .kind)) (every (λ (k : Spelling). leb Ident (k .kind)) ks) e in
     if-by Plain (begins (k .bytes) s) (λ _. rw (le-ltb (k .kind) Ident (leb-true _ _ (p .0)))) (λ _. sign-plain s ks (p .1))
 
-pub any-sign-plain : (s : List ℕ) → Plain (signCut signs s)
+any-sign-plain : (s : List ℕ) → Plain (signCut signs s)
 any-sign-plain s = sign-plain s signs signs-above
+
+pub sign-or-plain : (s : List ℕ) → Plain (commentOr s)
+sign-or-plain s = if-by Plain (begins (ascii "//") s) (λ _. refl) (λ _. any-sign-plain s)
 
 pub named-plain : (w : Bool) (c : Cut) → plainCut c ≡ c → c ≡ cutNamed w c
 named-plain true c e = refl

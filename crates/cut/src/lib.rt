@@ -489,7 +489,7 @@ fn sign_or_comment(index: &[u8; 256], signs: &[u8; 451], line: &[u8], at: usize)
 }
 
 // The cut at `at`, by the class of the byte there. The tables are lent.
-pub fn next_token(
+pub fn cut_by_class(
     class: &[u8; 256],
     reach: &[u8; 256],
     index: &[u8; 256],
@@ -515,5 +515,33 @@ pub fn next_token(
         4 => string_cut(line, at),
         5 => sign_or_comment(index, signs, line, at),
         _ => finding_at(line, at, 0, 1),
+    }
+}
+
+// The same. The frequent classes stand apart, so that the loop over a line has them in its own code; the others are called for.
+pub fn next_token(
+    class: &[u8; 256],
+    reach: &[u8; 256],
+    index: &[u8; 256],
+    signs: &[u8; 451],
+    keywords: &[u8; 506],
+    line: &[u8],
+    at: usize,
+    named: bool,
+) -> Cut
+    requires { ⌜ now class ≡ classTable ⌝ }
+    requires { ⌜ now reach ≡ reachTable ⌝ }
+    requires { ⌜ now index ≡ signIndexTable ⌝ }
+    requires { ⌜ now signs ≡ signTable ⌝ }
+    requires { ⌜ now keywords ≡ keywordTable ⌝ }
+    requires { ⌜ at < length (now line) ⌝ }
+    ensures { λ r. ⌜ cutOf r ≡ cutNamed named (cut (drop at (now (line .entry)))) ⌝ }
+{
+    match spelling::class_of(class, line[at]) {
+        0 => Cut::Blank,
+        2 => letter_cut(reach, keywords, line, at, named),
+        3 => number_cut(reach, line, at),
+        5 => sign_or_comment(index, signs, line, at),
+        _ => cut_by_class(class, reach, index, signs, keywords, line, at, named),
     }
 }

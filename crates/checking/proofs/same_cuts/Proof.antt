@@ -22,8 +22,8 @@ loop-holds c =
     let a = c .before .before .args in
     start (a .position) (a .number) (a .k) (a .tokens .now) (a .line .now) (a .depth)
 
-next-token-requires : tie.Need-next-token-requires Inv-loop μ-loop
-next-token-requires c κs =
+cut-by-class-requires : tie.Need-cut-by-class-requires Inv-loop μ-loop
+cut-by-class-requires c κs =
     let p = c .before .before .before .before .pre in
     (p .0, (p .1 .0, (p .1 .1 .0, (p .1 .1 .1 .0, (p .1 .1 .1 .1 .0, c .loop-test .taken)))))
 
@@ -39,7 +39,7 @@ loop-less c = omega (arith, c .before .before .before .loop-test .taken)
 loop-again : tie.Need-loop-again Inv-loop μ-loop
 loop-again c =
     let a = c .before .before .before .before .before .before .before .args in
-    past-blank (a .position) (a .number) (a .k) (a .tokens .now) (a .line .now) (a .depth) (c .before .before .before .before .loop .inv) (c .before .before .before .loop-test .taken) (sym (c .before .before .next-token .ensures) ∙ ap cutOf (c .enum-told .given .1))
+    past-blank (a .position) (a .number) (a .k) (a .tokens .now) (a .line .now) (a .depth) (c .before .before .before .before .loop .inv) (c .before .before .before .loop-test .taken) (sym (c .before .before .cut-by-class .ensures) ∙ ap cutOf (c .enum-told .given .1))
 
 enum-told-2 : tie.Need-enum-told-2 Inv-loop μ-loop
 enum-told-2 c = search needs
@@ -47,7 +47,7 @@ enum-told-2 c = search needs
 returns : tie.Need-returns Inv-loop μ-loop
 returns c =
     let a = c .before .before .before .before .before .before .before .args in
-    at-comment (a .position) (a .number) (a .k) (a .tokens .now) (a .line .now) (a .depth) (c .before .before .before .before .loop .inv) (c .before .before .before .loop-test .taken) (sym (c .before .before .next-token .ensures) ∙ ap cutOf (c .enum-told2 .given .1))
+    at-comment (a .position) (a .number) (a .k) (a .tokens .now) (a .line .now) (a .depth) (c .before .before .before .before .loop .inv) (c .before .before .before .loop-test .taken) (sym (c .before .before .cut-by-class .ensures) ∙ ap cutOf (c .enum-told2 .given .1))
 
 enum-known-kind : tie.Need-enum-known-kind Inv-loop μ-loop
 enum-known-kind c = search needs
@@ -75,7 +75,7 @@ cast-same-token-2 c =
     let h = c .before .before .before .before .loop-test .taken in
     let kind = c .before .kind .given .0 .0 in
     let size = c .before .kind .given .0 .1 .0 in
-    let e = sym (c .before .before .before .next-token .ensures) ∙ ap cutOf (c .before .kind .given .1) in
+    let e = sym (c .before .before .before .cut-by-class .ensures) ∙ ap cutOf (c .before .kind .given .1) in
     let i = token-inside (a .position) (a .number) (a .k) (a .tokens .now) (a .line .now) (a .depth) v h kind size e in
     omega (arith, q .0, i .1)
 
@@ -102,7 +102,7 @@ returns-2 c =
     let h = c .before .before .before .before .before .before .loop-test .taken in
     let kind = c .before .before .before .kind .given .0 .0 in
     let size = c .before .before .before .kind .given .0 .1 .0 in
-    let e = sym (c .before .before .before .before .before .next-token .ensures) ∙ ap cutOf (c .before .before .before .kind .given .1) in
+    let e = sym (c .before .before .before .before .before .cut-by-class .ensures) ∙ ap cutOf (c .before .before .before .kind .given .1) in
     other-token (a .position) (a .number) (a .k) (a .tokens .now) (a .line .now) (a .depth) v h kind size e (sym (not-true _ (c .if1 .taken)) ∙ c .before .same-token .ensures)
 
 depth-by-requires : tie.Need-depth-by-requires Inv-loop μ-loop
@@ -123,7 +123,7 @@ add-at-2 c =
     let h = c .before .before .before .before .before .before .before .loop-test .taken in
     let kind = c .before .before .before .before .kind .given .0 .0 in
     let size = c .before .before .before .before .kind .given .0 .1 .0 in
-    let e = sym (c .before .before .before .before .before .before .next-token .ensures) ∙ ap cutOf (c .before .before .before .before .kind .given .1) in
+    let e = sym (c .before .before .before .before .before .before .cut-by-class .ensures) ∙ ap cutOf (c .before .before .before .before .kind .given .1) in
     let i = token-inside (a .position) (a .number) (a .k) (a .tokens .now) (a .line .now) (a .depth) v h kind size e in
     omega (arith, q .0, i .1)
 
@@ -135,7 +135,7 @@ loop-less-2 c =
     let h = c .before .before .before .before .before .before .before .loop-test .taken in
     let kind = c .before .before .before .before .kind .given .0 .0 in
     let size = c .before .before .before .before .kind .given .0 .1 .0 in
-    let e = sym (c .before .before .before .before .before .before .next-token .ensures) ∙ ap cutOf (c .before .before .before .before .kind .given .1) in
+    let e = sym (c .before .before .before .before .before .before .cut-by-class .ensures) ∙ ap cutOf (c .before .before .before .before .kind .given .1) in
     let i = token-inside (a .position) (a .number) (a .k) (a .tokens .now) (a .line .now) (a .depth) v h kind size e in
     omega (arith, i .0, i .1, h)
 
@@ -147,7 +147,7 @@ loop-again-2 c =
     let h = c .before .before .before .before .before .before .before .loop-test .taken in
     let kind = c .before .before .before .before .kind .given .0 .0 in
     let size = c .before .before .before .before .kind .given .0 .1 .0 in
-    let e = sym (c .before .before .before .before .before .before .next-token .ensures) ∙ ap cutOf (c .before .before .before .before .kind .given .1) in
+    let e = sym (c .before .before .before .before .before .before .cut-by-class .ensures) ∙ ap cutOf (c .before .before .before .before .kind .given .1) in
     past-token (a .position) (a .number) (a .k) (a .tokens .now) (a .line .now) (a .depth) v h kind size e (sym (not-false _ (c .before .if1 .left)) ∙ c .before .before .same-token .ensures) _ (c .depth-by .ensures)
 
 enum-told-3 : tie.Need-enum-told-3 Inv-loop μ-loop
@@ -157,7 +157,7 @@ returns-3 : tie.Need-returns-3 Inv-loop μ-loop
 returns-3 c =
     let a = c .before .before .before .before .before .before .before .args in
     let f = failureOf (c .enum-told3 .given .0 .0) in
-    at-failure (a .position) (a .number) (a .k) (a .tokens .now) (a .line .now) (a .depth) (c .before .before .before .before .loop .inv) (c .before .before .before .loop-test .taken) f (sym (c .before .before .next-token .ensures) ∙ ap cutOf (c .enum-told3 .given .1))
+    at-failure (a .position) (a .number) (a .k) (a .tokens .now) (a .line .now) (a .depth) (c .before .before .before .before .loop .inv) (c .before .before .before .loop-test .taken) f (sym (c .before .before .cut-by-class .ensures) ∙ ap cutOf (c .enum-told3 .given .1))
 
 returns-4 : tie.Need-returns-4 Inv-loop μ-loop
 returns-4 c =
@@ -171,7 +171,7 @@ same-cuts-spec =
     Inv-loop
     μ-loop
     loop-holds
-    next-token-requires
+    cut-by-class-requires
     enum-told
     add-at
     loop-less
