@@ -539,6 +539,7 @@ pub fn next_token(
 {
     match spelling::class_of(class, line[at]) {
         0 => Cut::Blank,
+        1 => Cut::Comment,
         2 => letter_cut(reach, keywords, line, at, named),
         3 => number_cut(reach, line, at),
         5 => sign_or_comment(index, signs, line, at),

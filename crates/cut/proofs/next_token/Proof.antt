@@ -42,23 +42,29 @@ returns c =
 returns-2 : tie.Need-returns-2
 unfolding cutBy
 returns-2 c =
-    let b = c .before .before .before .before .before in
-    c .letter-cut .ensures ∙ in-class (b .args .named) (b .args .line .now) (b .args .at) (b .pre .1 .1 .1 .1 .1) 2 (sym (c .before .before .class-of .ensures) ∙ c .before .match .keys2)
+    let a = c .before .before .before .before .args in
+    plain-class (a .named) (a .line .now) (a .at) (c .before .before .before .before .pre .1 .1 .1 .1 .1) 1 (sym (c .before .class-of .ensures) ∙ c .match .keys2) refl
 
 returns-3 : tie.Need-returns-3
 unfolding cutBy
 returns-3 c =
     let b = c .before .before .before .before .before in
-    c .number-cut .ensures ∙ plain-class (b .args .named) (b .args .line .now) (b .args .at) (b .pre .1 .1 .1 .1 .1) 3 (sym (c .before .before .class-of .ensures) ∙ c .before .match .keys3) (number-plain (drop (b .args .at) (b .args .line .now)))
+    c .letter-cut .ensures ∙ in-class (b .args .named) (b .args .line .now) (b .args .at) (b .pre .1 .1 .1 .1 .1) 2 (sym (c .before .before .class-of .ensures) ∙ c .before .match .keys3)
 
 returns-4 : tie.Need-returns-4
 unfolding cutBy
 returns-4 c =
     let b = c .before .before .before .before .before in
-    c .sign-or-comment .ensures ∙ plain-class (b .args .named) (b .args .line .now) (b .args .at) (b .pre .1 .1 .1 .1 .1) 5 (sym (c .before .before .class-of .ensures) ∙ c .before .match .keys4) (sign-or-plain (drop (b .args .at) (b .args .line .now)))
+    c .number-cut .ensures ∙ plain-class (b .args .named) (b .args .line .now) (b .args .at) (b .pre .1 .1 .1 .1 .1) 3 (sym (c .before .before .class-of .ensures) ∙ c .before .match .keys4) (number-plain (drop (b .args .at) (b .args .line .now)))
 
 returns-5 : tie.Need-returns-5
-returns-5 c = c .cut-by-class .ensures
+unfolding cutBy
+returns-5 c =
+    let b = c .before .before .before .before .before in
+    c .sign-or-comment .ensures ∙ plain-class (b .args .named) (b .args .line .now) (b .args .at) (b .pre .1 .1 .1 .1 .1) 5 (sym (c .before .before .class-of .ensures) ∙ c .before .match .keys5) (sign-or-plain (drop (b .args .at) (b .args .line .now)))
+
+returns-6 : tie.Need-returns-6
+returns-6 c = c .cut-by-class .ensures
 
 pub next-token-spec : {M : Type 1} → statement M
 next-token-spec =
@@ -74,4 +80,5 @@ next-token-spec =
     returns-2
     returns-3
     returns-4
-    returns-5)
+    returns-5
+    returns-6)
