@@ -20,7 +20,8 @@
 use crate::ffi::{self, Reply};
 use crate::record::{Edited, Header, Line, Token};
 use crate::refusal::Refusal;
-use crate::LINE_WORDS;
+use crate::{LINE_WORDS, TOKEN_WORDS};
+use core::iter::FusedIterator;
 use core::ops::Range;
 
 /// The names of Indent, Dedent and Newline, one after the other.
@@ -114,7 +115,21 @@ impl Iterator for Walk<'_> {
             _ => None,
         }
     }
+
+    fn nth(&mut self, n: usize) -> Option<Self::Item> {
+        self.next = self.next.saturating_add(n);
+        self.next()
+    }
+
+    fn size_hint(&self) -> (usize, Option<usize>) {
+        let left = (self.tokens.len() / TOKEN_WORDS).saturating_sub(self.next);
+        (left, Some(left))
+    }
 }
+
+impl ExactSizeIterator for Walk<'_> {}
+
+impl FusedIterator for Walk<'_> {}
 
 /// The records in line words, the one for the end included; words left over are not looked at.
 pub fn line_records(lines: &[u32]) -> impl DoubleEndedIterator<Item = Line> + ExactSizeIterator + Clone + '_ {

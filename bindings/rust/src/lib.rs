@@ -35,6 +35,8 @@
 //! nothing there allocates, and without the feature `alloc` the crate needs no allocator at all. It never needs `std`.
 #![no_std]
 #![deny(missing_docs)]
+// The documentation speaks of `Page` also where it is left out.
+#![cfg_attr(not(feature = "alloc"), allow(rustdoc::broken_intra_doc_links))]
 
 #[cfg(feature = "alloc")]
 extern crate alloc;

@@ -7,6 +7,7 @@ use alloc::string::String;
 use alloc::vec;
 use alloc::vec::Vec;
 use core::fmt;
+use core::iter::FusedIterator;
 use core::ops::Range;
 
 /// A script with its line and token records, which every edit keeps current.
@@ -152,7 +153,7 @@ impl Page {
             .expect("a page has a record for its end")
     }
 
-    /// The tokens of the text.
+    /// The tokens of the text. To go on from the token with some number (`nth`, `skip`) takes no longer than from the first.
     pub fn tokens(&self) -> Tokens<'_> {
         Tokens {
             walk: lent::walk(self.token_words()),
@@ -206,13 +207,30 @@ pub struct Tokens<'a> {
     walk: Walk<'a>,
 }
 
+/// A token whose kind has a name, as every token of a page has.
+fn named(token: Result<Token, Refusal>) -> Token {
+    token.expect("a page's kinds are 0 to 92")
+}
+
 impl Iterator for Tokens<'_> {
     type Item = Token;
 
     fn next(&mut self) -> Option<Token> {
-        self.walk.next().map(|token| token.expect("a page's kinds are 0 to 92"))
+        self.walk.next().map(named)
+    }
+
+    fn nth(&mut self, n: usize) -> Option<Token> {
+        self.walk.nth(n).map(named)
+    }
+
+    fn size_hint(&self) -> (usize, Option<usize>) {
+        self.walk.size_hint()
     }
 }
+
+impl ExactSizeIterator for Tokens<'_> {}
+
+impl FusedIterator for Tokens<'_> {}
 
 /// The message of a text's failure, with its line and a caret below it, or none if the text reads. Refuses 1, 2, 4.
 ///

@@ -143,6 +143,16 @@ fn walk_goes_by_the_words() {
     assert_eq!(lent::walk(&tokens).count(), 6);
     assert_eq!(lent::walk(&tokens[..29]).count(), 5);
     assert_eq!(lent::walk(&[]).count(), 0);
+    let mut walk = lent::walk(&tokens[..29]);
+    assert_eq!(walk.nth(3).unwrap().unwrap().position, 4);
+    assert_eq!(
+        (walk.len(), walk.next().unwrap().unwrap().kind),
+        (1, TokenKind::Newline)
+    );
+    assert_eq!(
+        (walk.next(), walk.len(), walk.nth(usize::MAX), walk.next()),
+        (None, 0, None, None)
+    );
     tokens[5] = 93;
     let kinds: Vec<_> = lent::walk(&tokens)
         .map(|token| token.map(|t| t.kind.number()))

@@ -191,7 +191,14 @@ fn tokens_are_the_records() {
         )
         .collect();
     assert_eq!(words, page.token_words());
-    assert_eq!(words.len(), 5 * page.header().tokens as usize);
+    assert_eq!(
+        (words.len(), page.tokens().len()),
+        (5 * page.header().tokens as usize, words.len() / 5)
+    );
+    let all: Vec<Token> = page.tokens().collect();
+    for i in 0..=all.len() {
+        assert_eq!(page.tokens().skip(i).collect::<Vec<_>>(), all[i..]);
+    }
 }
 
 /// A text with each detail, in the order of the details; the scalar found.
