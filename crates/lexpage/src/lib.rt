@@ -288,7 +288,7 @@ fn put_edited(reply: &mut [u64; 16], n: u64, m: u64, k: u64, count: u64) -> u64
 }
 
 // The answer of `edit`.
-fn put_edit(reply: &mut [u64; 16], r: page::EditAnswer) -> u64
+pub fn put_edit(reply: &mut [u64; 16], r: page::EditAnswer) -> u64
     ensures { λ n. ⌜ n ≡ length (editNumbers r) ⌝ }
     ensures { λ _. ⌜ now (reply .exit) ≡ sets (now (reply .entry)) 0 (editNumbers r) ⌝ }
 {

@@ -5,17 +5,14 @@ ghost use Prim.Native.Nat.{_+_, _≤_, _<_};
 ghost use lib.ListN.{length};
 
 // The position after a field that differs.
-const LOST: usize = 0xFFFF_FFFF_FFFF_FFFF;
+pub const LOST: usize = 0xFFFF_FFFF_FFFF_FFFF;
 
 // What a word or a byte holds before a call.
-const FILL: u64 = 0xAAAA_AAAA;
+pub const FILL: u64 = 0xAAAA_AAAA;
 
-const FILL_WORD: u32 = 0xAAAA_AAAA;
+pub const FILL_WORD: u32 = 0xAAAA_AAAA;
 
-const FILL_BYTE: u8 = 0xAA;
-
-// In the place of a number where a field spells none.
-const NO_NUMBER: u64 = 1_000_000_000_000;
+pub const FILL_BYTE: u8 = 0xAA;
 
 // How many cases agree, how many differ, and the number of the first that differs.
 pub struct Tally {
@@ -26,25 +23,22 @@ pub struct Tally {
 
 // Numbers.
 
-// A number with one digit more; none where the byte is no digit or the number is too large.
+// A number with one digit more, where it is one and there is room for it.
 fn with_digit(value: u64, b: u8) -> u64 {
     if b < 48 {
-        return NO_NUMBER;
+        return 0;
     }
     if 57 < b {
-        return NO_NUMBER;
+        return 0;
     }
-    if 99_999_999_999 <= value {
-        return NO_NUMBER;
+    if 1_844_674_407_370_955_161 < value {
+        return 0;
     }
-    10 * value + (b - 48) as u64
+    std::num::wrapping_add_u64(10 * value, (b - 48) as u64)
 }
 
-// The number that a field spells in decimal.
-fn number(field: &[u8]) -> u64 {
-    if field.len() == 0 {
-        return NO_NUMBER;
-    }
+// The number that a field spells in decimal; any where it spells none below 2^64.
+pub fn number(field: &[u8]) -> u64 {
     let mut value: u64 = 0;
     let mut i: usize = 0;
     while i < field.len() {
@@ -54,18 +48,33 @@ fn number(field: &[u8]) -> u64 {
     value
 }
 
+// A field spells this number in decimal.
+pub fn spelled(field: &[u8], value: u64) -> bool {
+    let mut digits: [u8; 20] = [0; 20];
+    let size = io::decimal(value, &mut digits);
+    check::same(field, &digits[..size])
+}
+
+// Where this byte stands first, from `from` on, or the end.
+pub fn find(bytes: &[u8], from: usize, byte: u8) -> usize
+    requires { ⌜ from ≤ length (now bytes) ⌝ }
+    ensures { λ r. ⌜ (from ≤ r) × (r ≤ length (now (bytes .entry))) ⌝ }
+{
+    cut::find_byte(bytes, from, byte)
+}
+
 // Where the field that begins at `from` ends.
-fn field_end(case: &[u8], from: usize) -> usize
+pub fn field_end(case: &[u8], from: usize) -> usize
     requires { ⌜ from ≤ length (now case) ⌝ }
     ensures { λ r. ⌜ (from ≤ r) × (r ≤ length (now (case .entry))) ⌝ }
 {
-    cut::find_byte(case, from, 32)
+    find(case, from, 32)
 }
 
 // The number in the field after `at`.
-fn number_after(case: &[u8], at: usize) -> u64 {
+pub fn number_after(case: &[u8], at: usize) -> u64 {
     if case.len() <= at {
-        return NO_NUMBER;
+        return 0;
     }
     let from = at + 1;
     let end = field_end(case, from);
@@ -73,14 +82,16 @@ fn number_after(case: &[u8], at: usize) -> u64 {
 }
 
 // Past the field after `at`, where it spells this number.
-fn past_number(case: &[u8], at: usize, value: u64) -> usize {
+pub fn past_number(case: &[u8], at: usize, value: u64) -> usize {
     if case.len() <= at {
         return LOST;
     }
-    if number_after(case, at) != value {
+    let from = at + 1;
+    let end = field_end(case, from);
+    if !spelled(&case[from..end], value) {
         return LOST;
     }
-    field_end(case, at + 1)
+    end
 }
 
 // Past the field after `at`, where it spells a word that is counted; a word that is not counted must be as it was before the call.
@@ -95,7 +106,7 @@ fn past_word(case: &[u8], at: usize, word: u64, counted: bool) -> usize {
 }
 
 // Past the group after `at`, where it spells these words of a reply.
-fn past_reply(case: &[u8], at: usize, reply: &[u64; 16], count: u64) -> usize {
+pub fn past_reply(case: &[u8], at: usize, reply: &[u64; 16], count: u64) -> usize {
     let mut p = past_number(case, at, count);
     let mut i: usize = 0;
     while i < 16 {
@@ -142,7 +153,7 @@ fn hex_digit(b: u8) -> u8
 }
 
 // The bytes that a field spells in hex, at the front of `bytes`: how many they are, up to the first that is not spelled or has no room.
-fn put_hex(field: &[u8], bytes: &mut [u8]) -> usize
+pub fn put_hex(field: &[u8], bytes: &mut [u8]) -> usize
     ensures { λ r. ⌜ r ≤ length (now (bytes .exit)) ⌝ }
 {
     let mut n: usize = 0;
@@ -167,7 +178,7 @@ fn put_hex(field: &[u8], bytes: &mut [u8]) -> usize
 }
 
 // A field of this size spells n bytes: two digits for each, or `-` for none.
-fn spells(size: usize, n: usize) -> bool {
+pub fn spells(size: usize, n: usize) -> bool {
     if n == 0 {
         return size == 1;
     }
@@ -276,7 +287,7 @@ fn agrees(case: &[u8]) -> bool {
 }
 
 // A tally with one case more.
-fn counted(t: Tally, good: bool) -> Tally
+pub fn counted(t: Tally, good: bool) -> Tally
     requires { ⌜ t .passed + t .failed < 4_294_967_296 ⌝ }
     ensures { λ r. ⌜ r .passed + r .failed ≡ t .passed + t .failed + 1 ⌝ }
 {
@@ -312,15 +323,15 @@ pub fn replay(list: &[u8]) -> Tally
     };
     let mut at: usize = 0;
     while at < list.len() {
-        let end = reading::line_end(list, at);
+        let end = find(list, at, 10);
         t = counted(t, agrees(&list[at..end]));
-        at = reading::past_lf(list, end);
+        at = end + 1;
     }
     t
 }
 
 // A tally, its last line `N passed, M failed`.
-fn print_tally(t: Tally) {
+pub fn print_tally(t: Tally) {
     if t.failed != 0 {
         io::write_all(1, b"first to differ: case ");
         io::print_decimal(1, t.first);

@@ -12,9 +12,6 @@ Inv-loop field value₀ i₀ value i = Unit {0}
 abbrev μ-loop : tie.MeasureT-loop
 μ-loop field value₀ i₀ value i = length field - i
 
-returns : tie.Need-returns Inv-loop μ-loop
-returns c = tt
-
 loop-holds : tie.Need-loop-holds Inv-loop μ-loop
 loop-holds c = tt
 
@@ -33,8 +30,8 @@ loop-less c = omega arith
 loop-again : tie.Need-loop-again Inv-loop μ-loop
 loop-again c = tt
 
-returns-2 : tie.Need-returns-2 Inv-loop μ-loop
-returns-2 c = tt
+returns : tie.Need-returns Inv-loop μ-loop
+returns c = tt
 
 pub number-spec : {M : Type 1} → statement M
 number-spec =
@@ -42,11 +39,10 @@ number-spec =
     (tie.spec
     Inv-loop
     μ-loop
-    returns
     loop-holds
     shared-slice-read-with-digit
     with-digit-requires
     add-i
     loop-less
     loop-again
-    returns-2)
+    returns)
