@@ -158,9 +158,13 @@ impl Page {
     }
 }
 
+// A byte string in hex, or one byte, `*` and how often it stands.
 fn bytes(field: &str) -> Vec<u8> {
     if field == "-" {
         return Vec::new();
+    }
+    if let Some((byte, count)) = field.split_once('*') {
+        return bytes(byte).repeat(count.parse().unwrap());
     }
     (0..field.len() / 2).map(|i| u8::from_str_radix(&field[2 * i..2 * i + 2], 16).unwrap()).collect()
 }

@@ -2,7 +2,7 @@
 
 use crate::generate::calls::Calls;
 use crate::generate::edits::{Edit, History};
-use crate::generate::lists::{recorded_histories, recorded_texts, ALTERED};
+use crate::generate::lists::{altered_histories, recorded_histories, recorded_texts, ALTERED};
 use crate::page::{byte_value, header_reply, message, panel_column, scan_output, walk_step, Page};
 use crate::reading::{fresh_reading, Reply};
 
@@ -59,24 +59,61 @@ fn altered_case(text: &[u8], field: usize) -> String {
     fields.join(" ")
 }
 
+/// A line of a recorded list, and whether one of its answers was made wrong.
+pub struct Case {
+    pub line: String,
+    pub wrong: bool,
+}
+
+impl Case {
+    fn true_to(line: String) -> Case {
+        Case { line, wrong: false }
+    }
+
+    fn altered(line: String) -> Case {
+        Case { line, wrong: true }
+    }
+}
+
 /// Each text that is altered with its true answers, and then with a wrong one.
-fn altered_cases() -> Vec<String> {
-    let pair = |(text, field): &(&[u8], usize)| [text_case(text), altered_case(text, *field)];
+fn altered_texts() -> Vec<Case> {
+    let pair = |(text, field): &(&[u8], usize)| {
+        let altered = Case::altered(altered_case(text, *field));
+        [Case::true_to(text_case(text)), altered]
+    };
     ALTERED.iter().flat_map(pair).collect()
 }
 
-/// The lines of the recorded list of this name, without their LFs.
-pub fn recorded(list: &str) -> Option<Vec<String>> {
-    let histories = || {
-        recorded_histories()
-            .iter()
-            .flat_map(history_cases)
-            .collect()
-    };
+/// A list of edits cut after each of them, once for every number that is recorded of that edit: there this number is another.
+fn altered_edits(history: &History) -> Vec<Case> {
+    let mut page = history.page();
+    let mut before = vec![page_line(history)];
+    let mut cases = Vec::new();
+    for edit in &history.edits {
+        let answers = edit_answers(&mut page, edit);
+        for number in 0..answers.len() {
+            let mut wrong = answers.clone();
+            wrong[number] ^= 1;
+            cases.extend(before.iter().cloned().map(Case::true_to));
+            cases.push(Case::altered(edit_line(edit, &wrong)));
+        }
+        before.push(edit_line(edit, &answers));
+    }
+    cases
+}
+
+/// The recorded list of this name.
+pub fn recorded(list: &str) -> Option<Vec<Case>> {
+    let all_true = |lines: Vec<String>| lines.into_iter().map(Case::true_to).collect();
+    let texts = || recorded_texts().iter().map(|t| text_case(t)).collect();
+    let histories = recorded_histories;
     match list {
-        "texts" => Some(recorded_texts().iter().map(|t| text_case(t)).collect()),
-        "altered" => Some(altered_cases()),
-        "edits" => Some(histories()),
+        "texts" => Some(all_true(texts())),
+        "altered" => Some(altered_texts()),
+        "edits" => Some(all_true(
+            histories().iter().flat_map(history_cases).collect(),
+        )),
+        "altered-edits" => Some(altered_histories().iter().flat_map(altered_edits).collect()),
         _ => None,
     }
 }
@@ -93,23 +130,51 @@ pub fn digest(page: &Page) -> u64 {
         })
 }
 
-/// An edit with its reply and the page's digest afterwards, as one line without its LF.
-fn edit_case(page: &mut Page, edit: &Edit) -> String {
+/// The most bytes of an edit that are spelled one by one.
+const SPELLED: usize = 4_096;
+
+/// The bytes of an edit in hex; many equal ones as one of them, `*` and their number.
+fn inserted(w: &[u8]) -> String {
+    match w.first() {
+        Some(first) if w.len() > SPELLED && w.iter().all(|byte| byte == first) => {
+            format!("{first:02x}*{}", w.len())
+        }
+        _ => hex(w),
+    }
+}
+
+/// The numbers recorded of an edit: its reply, preceded by their count, and the page's digest afterwards.
+fn edit_answers(page: &mut Page, edit: &Edit) -> Vec<u64> {
     let reply = edit.apply(page);
+    let count = reply.len() as u64;
+    [&[count], &reply[..], &[digest(page)]].concat()
+}
+
+/// An edit with these answers, as one line without its LF.
+fn edit_line(edit: &Edit, answers: &[u64]) -> String {
     let Edit { a, b, w } = edit;
-    let (w, reply, digest) = (hex(w), group(&reply), digest(page));
-    format!("e {a} {b} {w} {reply} {digest}")
+    let mut line = format!("e {a} {b} {}", inserted(w));
+    for answer in answers {
+        line += &format!(" {answer}");
+    }
+    line
+}
+
+/// A fresh page, as one line without its LF.
+fn page_line(history: &History) -> String {
+    let lengths = history.lengths;
+    format!(
+        "p {} {} {} {}",
+        lengths.text, lengths.spare, lengths.lines, lengths.tokens
+    )
 }
 
 /// A fresh page and its edits, as lines without their LFs.
 pub fn history_cases(history: &History) -> Vec<String> {
-    let lengths = history.lengths;
     let mut page = history.page();
-    let mut cases = vec![format!(
-        "p {} {} {} {}",
-        lengths.text, lengths.spare, lengths.lines, lengths.tokens
-    )];
-    cases.extend(history.edits.iter().map(|edit| edit_case(&mut page, edit)));
+    let mut cases = vec![page_line(history)];
+    let edits = history.edits.iter();
+    cases.extend(edits.map(|edit| edit_line(edit, &edit_answers(&mut page, edit))));
     cases
 }
 

@@ -1,20 +1,20 @@
 //! Writes a fixed list of inputs with their answers, the same bytes each time.
 
-use oracle::format::recorded;
+use oracle::format::{recorded, Case};
 use std::env;
 use std::io::{self, BufWriter, Write};
 use std::process::ExitCode;
 
 /// Writes the lines.
-fn write_lines(lines: &[String]) -> io::Result<()> {
+fn write_lines(cases: &[Case]) -> io::Result<()> {
     let mut out = BufWriter::new(io::stdout().lock());
-    for line in lines {
-        writeln!(out, "{line}")?;
+    for case in cases {
+        writeln!(out, "{}", case.line)?;
     }
     out.flush()
 }
 
-/// record texts|altered|edits
+/// record texts|altered|edits|altered-edits
 fn main() -> ExitCode {
     let arguments: Vec<String> = env::args().skip(1).collect();
     let lines = match &arguments[..] {
@@ -25,7 +25,7 @@ fn main() -> ExitCode {
         Some(Ok(())) => ExitCode::SUCCESS,
         Some(Err(_)) => ExitCode::FAILURE,
         None => {
-            eprintln!("usage: record texts|altered|edits");
+            eprintln!("usage: record texts|altered|edits|altered-edits");
             ExitCode::from(2)
         }
     }

@@ -4,7 +4,7 @@ use super::edits::{each_on, every_range, history, Edit, History, AMPLE};
 use super::{texts, utf8, Random};
 use crate::examples;
 use crate::page::Lengths;
-use crate::reading::LINE_WORDS;
+use crate::reading::{LINE_WORDS, MAX_BYTES, TOKEN_WORDS};
 use std::collections::HashSet;
 
 /// Document 01's examples and what stands beside them.
@@ -176,8 +176,24 @@ fn long_script() -> History {
     each_on(&base, changes.map(|(a, b, w)| Edit::new(a, b, w)))
 }
 
-/// "5, buffer, least length": every buffer of L2's page exactly long enough and one short.
-fn narrow() -> Vec<History> {
+/// "5, buffer, least length": these edits with every buffer exactly long enough or one short.
+fn narrow(exact: Lengths, edits: &[Edit]) -> impl Iterator<Item = History> + '_ {
+    let shorter = move |text, spare, lines, tokens| Lengths {
+        text: exact.text - text,
+        spare: exact.spare - spare,
+        lines: exact.lines - lines,
+        tokens: exact.tokens - tokens,
+    };
+    (0..16)
+        .map(move |short| shorter(short & 1, short >> 1 & 1, short >> 2 & 1, short >> 3))
+        .map(|lengths| History {
+            lengths,
+            edits: edits.to_vec(),
+        })
+}
+
+/// L2's page, and texts of its size that fail or are not well-formed.
+fn narrow_pages() -> Vec<History> {
     let exact = Lengths {
         text: 6,
         spare: 6,
@@ -188,19 +204,95 @@ fn narrow() -> Vec<History> {
         .iter()
         .flat_map(|w| [Edit::new(0, 0, w), Edit::new(0, w.len(), b"")])
         .collect();
-    let shorter = |text, spare, lines, tokens| Lengths {
-        text: exact.text - text,
-        spare: exact.spare - spare,
-        lines: exact.lines - lines,
-        tokens: exact.tokens - tokens,
+    narrow(exact, &edits).collect()
+}
+
+/// Sixteen levels with records exactly long enough, and room for a line that would open another.
+fn narrow_levels() -> Vec<History> {
+    let (base, more) = (examples::levels(16), examples::levels(17));
+    let n = base.len();
+    let exact = Lengths {
+        text: more.len(),
+        spare: more.len(),
+        lines: 18 * LINE_WORDS,
+        tokens: 66 * TOKEN_WORDS,
     };
-    (0..16)
-        .map(|short| shorter(short & 1, short >> 1 & 1, short >> 2 & 1, short >> 3))
-        .map(|lengths| History {
-            lengths,
-            edits: edits.clone(),
-        })
-        .collect()
+    let edits = [
+        Edit::new(0, 0, &base),
+        Edit::new(n, n, &more[n..]),
+        Edit::new(n + 1, n, &more[n..]),
+        Edit::new(0, n, b"a"),
+    ];
+    narrow(exact, &edits).collect()
+}
+
+/// "text, or edited text, over 1,048,576 bytes": a comment as long as a text may be, and one byte longer. A list holds the bytes of one.
+fn byte_limit() -> Vec<History> {
+    let comment = |length| vec![b'#'; length];
+    let list = |(text, spare, lines, tokens), edits: &[Edit]| History {
+        lengths: Lengths {
+            text,
+            spare,
+            lines,
+            tokens,
+        },
+        edits: edits.to_vec(),
+    };
+    let (most, whole) = (MAX_BYTES, Edit::new(0, 0, &comment(MAX_BYTES)));
+    let longer = Edit::new(0, 0, &comment(most + 1));
+    let at_most = [
+        whole.clone(),
+        Edit::new(most, most, b"#"),
+        Edit::new(most - 1, most, b"/"),
+        Edit::new(0, most + 1, b""),
+        Edit::new(0, most, b""),
+    ];
+    let in_line = |a, b, length| [Edit::new(0, 0, b"a\n"), Edit::new(a, b, &comment(length))];
+    vec![
+        list((most, most, 42, 5), &at_most),
+        list((most - 1, most, 42, 5), &[whole.clone()]),
+        list((most, most - 1, 42, 5), &[whole.clone()]),
+        list((most, most, 41, 5), &[whole.clone()]),
+        list((most, most, 42, 4), &[whole]),
+        list((most, most, 42, 5), &[longer.clone()]),
+        list((0, 0, 21, 0), &[longer]),
+        list((2, 2, 42, 10), &in_line(1, 1, most - 1)),
+        list((2, 2, 42, 10), &in_line(1, 1, most - 2)),
+        list((2, 2, 42, 10), &in_line(1, 2, most)),
+        list((2, 2, 42, 10), &in_line(1, 3, most)),
+    ]
+}
+
+/// "What comes first in a reply": every refusal that an edit can meet from the fresh page on, but 4, with each of the four buffers.
+fn refusals() -> History {
+    let lengths = Lengths {
+        text: 8,
+        spare: 7,
+        lines: 3 * LINE_WORDS,
+        tokens: 30,
+    };
+    let edits = vec![
+        Edit::new(0, 0, b"a\n  b\n"),
+        Edit::new(6, 6, &[b'#'; MAX_BYTES + 1]),
+        Edit::new(4, 5, b"\xFF"),
+        Edit::new(4, 5, b"&"),
+        Edit::new(0, 0, b"aaa"),
+        Edit::new(0, 0, b"aa"),
+        Edit::new(6, 6, b"\n"),
+        Edit::new(0, 1, b"b;"),
+        Edit::new(6, 7, b""),
+        Edit::new(0, 1, b"cc"),
+    ];
+    History { lengths, edits }
+}
+
+/// Lists in which answers are made wrong, to show that they are found: L10, every refusal.
+pub fn altered_histories() -> Vec<History> {
+    let mut all = counts();
+    all.truncate(1);
+    all.push(refusals());
+    all.extend(narrow_levels().into_iter().take(1));
+    all
 }
 
 /// "L11 sixteen levels read, a seventeenth gives 4", by edits.
@@ -244,7 +336,10 @@ pub fn recorded_histories() -> Vec<History> {
     let mut all = counts();
     all.push(block_below_changed_line());
     all.push(long_script());
-    all.extend(narrow());
+    all.push(refusals());
+    all.extend(narrow_pages());
+    all.extend(narrow_levels());
+    all.extend(byte_limit());
     all.push(levels());
     all.push(scalars());
     all.extend(bases.map(|base| every_range(base, &insertions)));

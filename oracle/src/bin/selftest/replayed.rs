@@ -1,23 +1,42 @@
 //! The recorded lists that programs of the repository replay: what `record` writes now, and what it reaches.
 
 use crate::tally::Tally;
-use oracle::format::recorded;
-use oracle::generate::lists::recorded_texts;
+use oracle::format::{recorded, Case};
+use oracle::generate::lists::{recorded_histories, recorded_texts};
 use oracle::reading::{fresh_reading, LAST_KIND, TOKEN_WORDS};
 use std::collections::BTreeSet;
 use std::fs;
 use std::path::Path;
 
-/// Each program's standard input is the list that `record` writes.
+/// Each list, and the program that replays it.
+const PROGRAMS: [(&str, &str); 2] = [("texts", "replay_texts"), ("altered", "replay_altered")];
+
+/// What a program writes about a list if it finds each wrong answer and no other.
+fn verdict(cases: &[Case]) -> String {
+    let failed = cases.iter().filter(|case| case.wrong).count();
+    let passed = cases.len() - failed;
+    let first = match cases.iter().position(|case| case.wrong) {
+        Some(before) => format!("first to differ: case {}\n", before + 1),
+        None => String::new(),
+    };
+    format!("{first}{passed} passed, {failed} failed\n")
+}
+
+/// Each program's standard input is the list that `record` writes, and its standard output the verdict on it. Sought from
+/// the oracle's folder at the time of the run: a copied build must not look into another repository.
 fn check_files(tally: &mut Tally) {
-    for (list, program) in [("texts", "replay_texts"), ("altered", "replay_altered")] {
-        let crates = Path::new(env!("CARGO_MANIFEST_DIR")).join("../crates");
-        let held = fs::read_to_string(crates.join(program).join("stdin")).unwrap_or_default();
-        let lines = recorded(list).unwrap_or_default();
-        let written: String = lines.iter().map(|line| format!("{line}\n")).collect();
-        tally.expect(held == written, || {
+    for (list, program) in PROGRAMS {
+        let crates = Path::new("../crates");
+        let held = |file| fs::read_to_string(crates.join(program).join(file)).unwrap_or_default();
+        let cases = recorded(list).unwrap_or_default();
+        let written: String = cases
+            .iter()
+            .map(|case| format!("{}\n", case.line))
+            .collect();
+        tally.expect(held("stdin") == written, || {
             format!("crates/{program}/stdin is not what `oracle/record {list}` writes")
         });
+        tally.equal(held("stdout"), verdict(&cases), program);
     }
 }
 
@@ -42,8 +61,26 @@ fn check_reach(tally: &mut Tally) {
     tally.equal(kinds, spelled.collect(), "kinds recorded");
 }
 
-/// Both.
+/// "What comes first in a reply": those of an edit from the fresh page on, which 7 is not, and the buffers of 5.
+fn check_edits(tally: &mut Tally) {
+    let (mut replies, mut buffers) = (BTreeSet::new(), BTreeSet::new());
+    for history in recorded_histories() {
+        let mut page = history.page();
+        for edit in &history.edits {
+            let reply = edit.apply(&mut page);
+            replies.insert(reply[0]);
+            if let [5, buffer, _] = reply[..] {
+                buffers.insert(buffer);
+            }
+        }
+    }
+    tally.equal(replies, (0..=6).collect(), "replies to edits recorded");
+    tally.equal(buffers, (1..=4).collect(), "buffers of edits recorded");
+}
+
+/// All of it.
 pub fn check(tally: &mut Tally) {
     check_files(tally);
     check_reach(tally);
+    check_edits(tally);
 }
