@@ -9,7 +9,12 @@ use std::fs;
 use std::path::Path;
 
 /// Each list, and the program that replays it.
-const PROGRAMS: [(&str, &str); 2] = [("texts", "replay_texts"), ("altered", "replay_altered")];
+const PROGRAMS: [(&str, &str); 4] = [
+    ("texts", "replay_texts"),
+    ("altered", "replay_altered"),
+    ("edits", "replay_edits"),
+    ("altered-edits", "replay_edits_altered"),
+];
 
 /// What a program writes about a list if it finds each wrong answer and no other.
 fn verdict(cases: &[Case]) -> String {
