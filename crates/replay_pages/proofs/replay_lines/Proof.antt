@@ -1,7 +1,8 @@
 -- `replay_pages::replay_lines` is safe and ends: at most as many lines are counted as bytes are passed.
 -- Assumes nothing.
-use Prim.Native.Nat.{_+_, _-_, _≤_}
+use Prim.Native.Nat.{ℕ, _+_, _-_, _≤_, _<_}
 use mathlib.Core.Path.{_≡_, _∙_}
+use mathlib.Core.List.{List}
 use native.Mathlib.Omega.{arith}
 use lib.ListN.{length}
 use borrow.Author.Needs.{needs}
@@ -19,6 +20,19 @@ slice-aggregate-with-page c = search needs
 
 with-page-requires : tie.Need-with-page-requires Inv-loop μ-loop
 with-page-requires c κs = search needs
+
+-- the list, and the place at a line's end
+abbrev list-at : tie.After-find Inv-loop μ-loop → List ℕ
+list-at f = f .before .before .before .before .before .before .before .before .before .before .before .before .args .list .now
+
+abbrev found : tie.After-counted Inv-loop μ-loop → tie.After-find Inv-loop μ-loop
+found c = c .before .before .before .before .before .before .before .before .before .before .before .before .before .before .before .before .before .before .before .before .before .before
+
+-- that end lies in the list, and so few lines are counted
+in-list : (f : tie.After-find Inv-loop μ-loop)
+    → (f .before .before .loop .at ≤ f .find .result) × (f .find .result ≤ length (list-at f))
+    × (length (list-at f) < 4_294_967_295) × (f .before .before .loop .t .passed + f .before .before .loop .t .failed ≤ f .before .before .loop .at)
+in-list f = (f .find .ensures .0, f .find .ensures .1, f .before .before .before .before .before .before .before .before .before .before .before .before .pre, f .before .before .loop .inv .0 .1)
 
 loop-holds : tie.Need-loop-holds Inv-loop μ-loop
 loop-holds c = search needs
@@ -43,25 +57,28 @@ sub-counted c = search needs
 
 counted-requires : tie.Need-counted-requires Inv-loop μ-loop
 counted-requires c κs =
-    let f = c .before .before .before .before .before .before .before .before .before .before .before .before .before .before .before .before .before .before .before .before .before in
-    omega (arith, f .find .ensures .0, f .find .ensures .1, f .before .loop-test .taken, f .before .before .loop .inv .0 .0, f .before .before .loop .inv .0 .1, f .before .before .before .before .before .before .before .before .before .before .before .before .pre)
+    let b = in-list (c .before .before .before .before .before .before .before .before .before .before .before .before .before .before .before .before .before .before .before .before .before) in
+    omega (arith, b .0, b .1, b .2, b .3)
 
 add-at : tie.Need-add-at Inv-loop μ-loop
 add-at c =
-    let f = c .before .before .before .before .before .before .before .before .before .before .before .before .before .before .before .before .before .before .before .before .before .before in
-    omega (arith, f .find .ensures .0, f .find .ensures .1, f .before .loop-test .taken, f .before .before .loop .inv .0 .0, f .before .before .loop .inv .0 .1, f .before .before .before .before .before .before .before .before .before .before .before .before .pre)
+    let b = in-list (found c) in
+    omega (arith, b .1, b .2)
 
 loop-less : tie.Need-loop-less Inv-loop μ-loop
 loop-less c =
-    let f = c .before .before .before .before .before .before .before .before .before .before .before .before .before .before .before .before .before .before .before .before .before .before in
-    omega (arith, f .find .ensures .0, f .find .ensures .1, f .before .loop-test .taken, f .before .before .loop .inv .0 .0, f .before .before .loop .inv .0 .1, f .before .before .before .before .before .before .before .before .before .before .before .before .pre)
+    let b = in-list (found c) in
+    omega (arith, b .0, b .1)
 
 loop-again : tie.Need-loop-again Inv-loop μ-loop
 loop-again c =
-    let f = c .before .before .before .before .before .before .before .before .before .before .before .before .before .before .before .before .before .before .before .before .before .before in
+    let f = found c in
+    let b = in-list f in
     let a = c .before .before .before .before .before .before .before .before .before .before .before .before .before .before .after-line in
-    let i = f .before .before .loop .inv in
-    ((omega (arith, f .find .ensures .0, f .find .ensures .1, f .before .loop-test .taken, f .before .before .loop .inv .0 .0, f .before .before .loop .inv .0 .1, f .before .before .before .before .before .before .before .before .before .before .before .before .pre), omega (arith, c .counted .ensures, f .find .ensures .0, f .find .ensures .1, f .before .loop-test .taken, f .before .before .loop .inv .0 .0, f .before .before .loop .inv .0 .1, f .before .before .before .before .before .before .before .before .before .before .before .before .pre)), (a .kept .1 .1 .0 ∙ i .1 .0, a .kept .1 .1 .1 .0 ∙ i .1 .1, a .kept .1 .1 .1 .1 .0 ∙ i .1 .2, a .kept .1 .1 .1 .1 .1 .0 ∙ i .1 .3, a .kept .1 .1 .1 .1 .1 .1 .0 ∙ i .1 .4, a .kept .1 .1 .1 .1 .1 .1 .1 .0 ∙ i .1 .5))
+    let i = f .before .before .loop .inv in (
+      (omega (arith, b .1), omega (arith, c .counted .ensures, b .0, b .3)),
+      (a .kept .1 .1 .0 ∙ i .1 .0, a .kept .1 .1 .1 .0 ∙ i .1 .1, a .kept .1 .1 .1 .1 .0 ∙ i .1 .2, a .kept .1 .1 .1 .1 .1 .0 ∙ i .1 .3, a .kept .1 .1 .1 .1 .1 .1 .0 ∙ i .1 .4, a .kept .1 .1 .1 .1 .1 .1 .1 .0 ∙ i .1 .5),
+    )
 
 same-length : tie.Need-same-length Inv-loop μ-loop
 same-length c = search needs
