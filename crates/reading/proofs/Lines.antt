@@ -35,6 +35,8 @@ use Rattle.cut.specs.declared.Failure as cut-failure
 use Rattle.cut.specs.Cuts.{failureOf}
 use Rattle.reading.specs.Passes.{recordIn, passOf, linesIn, tokensIn, RoomIn}
 use Rattle.reading.specs.declared.FailureRecord.{FailureRecord}
+use Rattle.reading.specs.Steps.{StepIs}
+use Rattle.reading.specs.declared.Step.the-variants as step
 use Rattle.reading.specs.declared.Pass.{Pass}
 use Rattle.reading.specs.declared.Pass.the-variants.{Records, Fails, TooDeep}
 
@@ -200,10 +202,8 @@ module _ (t : List ℕ) (write : Bool) (lines₀ tokens₀ : List ℕ) where
               let c : _≡_ {A = ℕ} 0 1 = cc in
               absurd (omega arith)
 
-      pub room-next : (n i : ℕ) → RoomIn whole n i → i ≡ length tokens → (l : List ℕ) → l ≡ lineAt t p → line-cuts.RoomIn (readLine 16 z l) k (length tokens)
-      room-next n i r long l e =
-          subst (λ (x : ℕ). line-cuts.RoomIn (readLine 16 z l) k x) long
-          (subst (λ (x : List ℕ). line-cuts.RoomIn (readLine 16 z x) k i) (sym e) (next-room whole refl n i r))
+      pub room-next : (n i : ℕ) → RoomIn whole n i → i ≡ length tokens → line-cuts.RoomIn (readLine 16 z (lineAt t p)) k (length tokens)
+      room-next n i r long = subst (line-cuts.RoomIn (readLine 16 z (lineAt t p)) k) long (next-room whole refl n i r)
 
       -- the next line is read
       pub next-pass : (ts : List Token) (s′ : State) (lines′ tokens′ widths′ : List ℕ) (n q : ℕ) → readLine 16 z (lineAt t p) ≡ lineReads ts (stateOf s′ widths′) → n ≡ length ts → q ≡ p + sizeAt t p
@@ -225,32 +225,35 @@ module _ (t : List ℕ) (write : Bool) (lines₀ tokens₀ : List ℕ) where
             wide = wide′;
           }
 
-      pub next-from : (l : List ℕ) → l ≡ lineAt t p → (r : LineRead) (widths′ : List ℕ) → countedOf r widths′ ≡ counted (readLine 16 z l) → LevelsWithin r
-          → (n : ℕ) (s′ : State) → r ≡ Reads n s′ → (q : ℕ) → q ≡ p + sizeAt t p → (lines′ tokens′ : List ℕ)
-          → lines′ ≡ putIf write lines (21 * m) (lineRecord p k z) → tokens′ ≡ putIf write tokens (5 * k) (tokenWords p (m + 1) (line-cuts.tokensIn (readLine 16 z l)))
+      pub step-reads : (lines′ tokens′ widths′ : List ℕ) (q n : ℕ) (s′ : State) → StepIs widths′ (0 + p) (m + 1) (p + sizeAt t p) (readLine 16 z (lineAt t p)) (step.Reads q n s′)
+          → lines′ ≡ putIf write lines (21 * m) (lineRecord (0 + p) k z) → tokens′ ≡ putIf write tokens (5 * k) (tokenWords (0 + p) (m + 1) (line-cuts.tokensIn (readLine 16 z (lineAt t p))))
           → length widths′ ≡ 16 → PassTo lines′ tokens′ widths′ q (m + 1) (k + n) s′
-      next-from l here r widths′ e few′ n s′ q at here′ lines′ tokens′ el et wide′ =
-          let x = line-read r widths′ (readLine 16 z l) e n s′ q in
-          next-pass (x .0) s′ lines′ tokens′ widths′ n at (ap (readLine 16 z) (sym here) ∙ x .1) (x .2) here′ el
-          (et ∙ ap (λ (y : LineReply). putIf write tokens (5 * k) (tokenWords p (m + 1) (line-cuts.tokensIn y))) (x .1)) (subst LevelsWithin q few′) wide′
+      step-reads lines′ tokens′ widths′ q n s′ x el et wide′ =
+          next-pass (x .0) s′ lines′ tokens′ widths′ n q (x .1) (x .2) (x .3) (el ∙ ap (λ (i : ℕ). putIf write lines (21 * m) (lineRecord i k z)) (zero-add p))
+          (et ∙ (λ i. putIf write tokens (5 * k) (tokenWords (zero-add p i) (m + 1) (line-cuts.tokensIn (x .1 i))))) (x .4) wide′
 
-      -- the next line does not read
-      pub halt-pass : (x : Halt) (lines′ tokens′ : List ℕ) (n i : ℕ) → readLine 16 z (lineAt t p) ≡ lineHalts x → (write ≡ true → RoomIn whole n i)
-          → lines′ ≡ putIf write lines (21 * m) (lineRecord p k z) → (ts : List ℕ) → tokens′ ≡ putIf write tokens (5 * k) ts
-          → (whole ≡ halts (v .es) x) × (lines′ ≡ putIf write lines₀ 0 (linesIn whole)) × (tokens′ ≡ putIf write tokens₀ 0 (tokensIn whole))
-      halt-pass x lines′ tokens′ n i e room el ts et =
-          let a : whole ≡ halts (v .es) x = read-stuck 16 initial t p (v .es) z (v .to) x h e in
-          let no : write ≡ true → ⊥ = λ w. subst (λ (y : Reading). RoomIn y n i) a (room w) in
-          (a, unwritten write no lines₀ lines lines′ 0 (21 * m) _ _ _ (v .line-words) el, unwritten write no tokens₀ tokens tokens′ 0 (5 * k) _ _ _ (v .token-words) et)
+      -- the next line does not read: then nothing is written
+      module _ (lines′ tokens′ : List ℕ) (i j : ℕ) (room : write ≡ true → RoomIn whole i j) (xs ys : List ℕ) (el : lines′ ≡ putIf write lines (21 * m) xs) (et : tokens′ ≡ putIf write tokens (5 * k) ys) where
+        halted : (x : Halt) (r : Pass) → whole ≡ halts (v .es) x → r ≡ passOf whole → (r ≡ passOf whole) × ((lines′ ≡ putIf write lines₀ 0 (linesIn whole)) × (tokens′ ≡ putIf write tokens₀ 0 (tokensIn whole)))
+        halted x r e q =
+            let no : write ≡ true → ⊥ = λ w. subst (λ (y : Reading). RoomIn y i j) e (room w) in
+            (q, (unwritten write no lines₀ lines lines′ 0 (21 * m) _ _ _ (v .line-words) el, unwritten write no tokens₀ tokens tokens′ 0 (5 * k) _ _ _ (v .token-words) et))
 
-    number-is : m + 1 ≡ suc (length (v .es))
-    number-is = omega (arith, v .count)
+        number-is : m + 1 ≡ suc (length (v .es))
+        number-is = omega (arith, v .count)
 
-    pub failed-pass : (f : Failure) (r : FailureRecord) → whole ≡ halts (v .es) (failed f) → r ≡ recordIn (failureRecord p (m + 1) f) → Fails r ≡ passOf whole
-    failed-pass f r e q = ap Fails (q ∙ (λ i. recordIn (failureRecord (sym (v .to .bytes) i) (number-is i) f))) ∙ ap passOf (sym e)
+        pub step-fails : (r : FailureRecord) → StepIs [] (0 + p) (m + 1) (p + sizeAt t p) (readLine 16 z (lineAt t p)) (step.Fails r)
+            → (Fails r ≡ passOf whole) × ((lines′ ≡ putIf write lines₀ 0 (linesIn whole)) × (tokens′ ≡ putIf write tokens₀ 0 (tokensIn whole)))
+        step-fails r x =
+            let e = read-stuck 16 initial t p (v .es) z (v .to) (failed (x .0)) h (x .1) in
+            let here : 0 + p ≡ byteSum (v .es) = omega (arith, v .to .bytes) in
+            halted (failed (x .0)) (Fails r) e (ap Fails (x .2 ∙ (λ i. recordIn (failureRecord (here i) (number-is i) (x .0)))) ∙ ap passOf (sym e))
 
-    pub deep-pass : whole ≡ halts (v .es) overLimit → TooDeep (m + 1) ≡ passOf whole
-    deep-pass e = ap TooDeep number-is ∙ ap passOf (sym e)
+        pub step-deep : readLine 16 z (lineAt t p) ≡ lineHalts overLimit
+            → (TooDeep (m + 1) ≡ passOf whole) × ((lines′ ≡ putIf write lines₀ 0 (linesIn whole)) × (tokens′ ≡ putIf write tokens₀ 0 (tokensIn whole)))
+        step-deep x =
+            let e = read-stuck 16 initial t p (v .es) z (v .to) overLimit h x in
+            halted overLimit (TooDeep (m + 1)) e (ap TooDeep number-is ∙ ap passOf (sym e))
 
     -- The end.
 

@@ -8,17 +8,20 @@ ghost use lib.ListN.{length, getD, take, drop};
 ghost use lib.Seq.{sets};
 ghost use Rattle.rules.specs.Lists.{if_then_else_, run};
 ghost use Rattle.rules.specs.Failure.{detailOf, failureRecord};
-ghost use Rattle.rules.specs.Line.{initial};
+ghost use Rattle.rules.specs.Line.{initial, readLine};
 ghost use Rattle.rules.specs.Reading.{notLF, linesOf, readFrom};
-ghost use Rattle.rules.specs.Records.{packed, lineRecord, readLines};
+ghost use Rattle.rules.specs.Records.{packed, lineRecord, tokenWords, readLines};
+ghost use Rattle.rules.proofs.LoopLaws.{lineAt, sizeAt};
 ghost use Rattle.rules.specs.Replies.{barge};
 ghost use Rattle.rules.specs.Read.{filledBy, readInto};
 ghost use Rattle.spelling.specs.Bytes.{classTable, reachTable};
 ghost use Rattle.spelling.specs.Rows.{keywordTable, signTable, signIndexTable};
 ghost use Rattle.cut.specs.Cuts.{failureOf};
 ghost use Rattle.line.specs.States.{stateOf};
+ghost use Rattle.line.specs.LineCuts as line-cuts;
 ghost use Rattle.laws.specs.Puts.{putIf};
 ghost use Rattle.reading.specs.Passes.{recordIn, passOf, linesIn, tokensIn, RoomIn, Counted};
+ghost use Rattle.reading.specs.Steps.{StepIs};
 ghost use Rattle.reading.specs.Answers.{readNumbers};
 
 // A failure's record.
@@ -143,6 +146,67 @@ pub fn past_lf(text: &[u8], end: usize) -> usize
     end
 }
 
+// What the next line gives: where the one after it starts, the number of its tokens, the state after it; or its failure; or a level too many.
+pub enum Step {
+    Reads(usize, usize, line::State),
+    Fails(FailureRecord),
+    TooDeep,
+}
+
+// The line at `at` of a text that begins at byte `base` of the whole: where the pass writes, its record m and its tokens from k on.
+pub fn next_line(
+    class: &[u8; 256],
+    reach: &[u8; 256],
+    index: &[u8; 256],
+    signs: &[u8; 451],
+    keywords: &[u8; 506],
+    text: &[u8],
+    at: usize,
+    base: usize,
+    lines: &mut [u32],
+    tokens: &mut [u32],
+    write: bool,
+    m: usize,
+    k: usize,
+    widths: &mut [u32],
+    s: line::State,
+) -> Step
+    requires { ⌜ now class ≡ classTable ⌝ }
+    requires { ⌜ now reach ≡ reachTable ⌝ }
+    requires { ⌜ now index ≡ signIndexTable ⌝ }
+    requires { ⌜ now signs ≡ signTable ⌝ }
+    requires { ⌜ now keywords ≡ keywordTable ⌝ }
+    requires { ⌜ (at < length (now text)) × ((base + length (now text) ≤ 1_048_576) × ((m ≤ 1_048_576) × (k ≤ 3_000_000))) ⌝ }
+    requires { ⌜ (s .depth ≤ 4_194_304) × ((s .levels ≤ 16) × (length (now widths) ≡ 16)) ⌝ }
+    requires { ⌜ (write ≡ true → (21 * m + 21 ≤ length (now lines)) × line-cuts.RoomIn (readLine 16 (stateOf s (now widths)) (lineAt (now text) at)) k (length (now tokens))) ⌝ }
+    ensures { λ r. ⌜ StepIs (now (widths .exit)) (base + at) (m + 1) (at + sizeAt (now (text .entry)) at) (readLine 16 (stateOf s (now (widths .entry))) (lineAt (now (text .entry)) at)) r ⌝ }
+    ensures { λ _. ⌜ now (lines .exit) ≡ putIf write (now (lines .entry)) (21 * m) (lineRecord (base + at) k (stateOf s (now (widths .entry)))) ⌝ }
+    ensures { λ _. ⌜ now (tokens .exit) ≡ putIf write (now (tokens .entry)) (5 * k) (tokenWords (base + at) (m + 1) (line-cuts.tokensIn (readLine 16 (stateOf s (now (widths .entry))) (lineAt (now (text .entry)) at)))) ⌝ }
+{
+    let position = base + at;
+    put_line(lines, write, m, position as u32, k as u32, s, widths);
+    let end = line_end(text, at);
+    match line::read_line(
+        class,
+        reach,
+        index,
+        signs,
+        keywords,
+        &text[at..end],
+        tokens,
+        write,
+        k,
+        position as u32,
+        m as u32 + 1,
+        widths,
+        s,
+    ) {
+        line::LineRead::Reads(n, next) => Step::Reads(past_lf(text, end), n, next),
+        line::LineRead::Fails(f) => Step::Fails(failure_record(f, position, m + 1)),
+        line::LineRead::TooDeep => Step::TooDeep,
+    }
+}
+
 // One pass over the lines of a text: it counts, and where it writes, it stores the records.
 pub fn pass_lines(
     class: &[u8; 256],
@@ -176,33 +240,33 @@ pub fn pass_lines(
         levels: 0,
     };
     while p < text.len() {
-        put_line(lines, write, m, p as u32, k as u32, s, widths);
-        let end = line_end(text, p);
-        match line::read_line(
+        match next_line(
             class,
             reach,
             index,
             signs,
             keywords,
-            &text[p..end],
+            text,
+            p,
+            0,
+            lines,
             tokens,
             write,
+            m,
             k,
-            p as u32,
-            m as u32 + 1,
             widths,
             s,
         ) {
-            line::LineRead::Reads(n, next) => {
-                s = next;
+            Step::Reads(next, n, after) => {
+                p = next;
                 k += n;
                 m += 1;
-                p = past_lf(text, end);
+                s = after;
             }
-            line::LineRead::Fails(f) => {
-                return Pass::Fails(failure_record(f, p, m + 1));
+            Step::Fails(f) => {
+                return Pass::Fails(f);
             }
-            line::LineRead::TooDeep => {
+            Step::TooDeep => {
                 return Pass::TooDeep(m + 1);
             }
         }

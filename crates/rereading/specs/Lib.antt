@@ -1,4 +1,3 @@
-pub mod Steps
 pub mod Words
 pub mod Rereads
 pub mod Rewrites

@@ -15,71 +15,9 @@ ghost use Rattle.spelling.specs.Rows.{keywordTable, signTable, signIndexTable};
 ghost use Rattle.line.specs.States.{stateOf};
 ghost use Rattle.line.specs.LineCuts.{tokensIn, RoomIn};
 ghost use Rattle.laws.specs.Puts.{putIf};
-ghost use Rattle.rereading.specs.Steps.{StepIs};
 ghost use Rattle.rereading.specs.Words.{startWord, stateIn, oldByte, FirstFrom, stopsAt};
 ghost use Rattle.rereading.specs.Rereads.{RereadIs};
 ghost use Rattle.rereading.specs.Rewrites.{readFirst, RoomFrom, Reaches};
-
-// What the next line gives: where the one after it starts, the number of its tokens, the state after it; or its failure; or a level too many.
-pub enum Step {
-    Reads(usize, usize, line::State),
-    Fails(reading::FailureRecord),
-    TooDeep,
-}
-
-// The line at `at` of a text that begins at byte `base` of the whole: where the pass writes, its record m and its tokens from k on.
-pub fn next_line(
-    class: &[u8; 256],
-    reach: &[u8; 256],
-    index: &[u8; 256],
-    signs: &[u8; 451],
-    keywords: &[u8; 506],
-    text: &[u8],
-    at: usize,
-    base: usize,
-    lines: &mut [u32],
-    tokens: &mut [u32],
-    write: bool,
-    m: usize,
-    k: usize,
-    widths: &mut [u32],
-    s: line::State,
-) -> Step
-    requires { ⌜ now class ≡ classTable ⌝ }
-    requires { ⌜ now reach ≡ reachTable ⌝ }
-    requires { ⌜ now index ≡ signIndexTable ⌝ }
-    requires { ⌜ now signs ≡ signTable ⌝ }
-    requires { ⌜ now keywords ≡ keywordTable ⌝ }
-    requires { ⌜ (at < length (now text)) × ((base + length (now text) ≤ 1_048_576) × ((m ≤ 1_048_576) × (k ≤ 3_000_000))) ⌝ }
-    requires { ⌜ (s .depth ≤ 4_194_304) × ((s .levels ≤ 16) × (length (now widths) ≡ 16)) ⌝ }
-    requires { ⌜ (write ≡ true → (21 * m + 21 ≤ length (now lines)) × RoomIn (readLine 16 (stateOf s (now widths)) (lineAt (now text) at)) k (length (now tokens))) ⌝ }
-    ensures { λ r. ⌜ StepIs (now (widths .exit)) (base + at) (m + 1) (at + sizeAt (now (text .entry)) at) (readLine 16 (stateOf s (now (widths .entry))) (lineAt (now (text .entry)) at)) r ⌝ }
-    ensures { λ _. ⌜ now (lines .exit) ≡ putIf write (now (lines .entry)) (21 * m) (lineRecord (base + at) k (stateOf s (now (widths .entry)))) ⌝ }
-    ensures { λ _. ⌜ now (tokens .exit) ≡ putIf write (now (tokens .entry)) (5 * k) (tokenWords (base + at) (m + 1) (tokensIn (readLine 16 (stateOf s (now (widths .entry))) (lineAt (now (text .entry)) at)))) ⌝ }
-{
-    let position = base + at;
-    reading::put_line(lines, write, m, position as u32, k as u32, s, widths);
-    let end = reading::line_end(text, at);
-    match line::read_line(
-        class,
-        reach,
-        index,
-        signs,
-        keywords,
-        &text[at..end],
-        tokens,
-        write,
-        k,
-        position as u32,
-        m as u32 + 1,
-        widths,
-        s,
-    ) {
-        line::LineRead::Reads(n, next) => Step::Reads(reading::past_lf(text, end), n, next),
-        line::LineRead::Fails(f) => Step::Fails(reading::failure_record(f, position, m + 1)),
-        line::LineRead::TooDeep => Step::TooDeep,
-    }
-}
 
 // From record j on, the first of m that starts at the byte `at` or beyond.
 fn first_from(lines: &[u32], m: usize, j: usize, at: usize) -> usize
@@ -214,7 +152,7 @@ pub fn reread_lines(
         if stops_at(lines, j, b, kept, base + q, s, widths) {
             return Reread::Stops(c, k, q, j);
         }
-        match next_line(
+        match reading::next_line(
             class,
             reach,
             index,
@@ -231,16 +169,16 @@ pub fn reread_lines(
             widths,
             s,
         ) {
-            Step::Reads(next, n, z) => {
+            reading::Step::Reads(next, n, z) => {
                 q = next;
                 c += 1;
                 k += n;
                 s = z;
             }
-            Step::Fails(f) => {
+            reading::Step::Fails(f) => {
                 return Reread::Fails(f);
             }
-            Step::TooDeep => {
+            reading::Step::TooDeep => {
                 return Reread::TooDeep(i + c + 1);
             }
         }
@@ -283,7 +221,7 @@ pub fn rewrite_lines(
     let mut t = k;
     let mut s = first;
     while c < count {
-        match next_line(
+        match reading::next_line(
             class,
             reach,
             index,
@@ -300,16 +238,16 @@ pub fn rewrite_lines(
             widths,
             s,
         ) {
-            Step::Reads(next, n, z) => {
+            reading::Step::Reads(next, n, z) => {
                 q = next;
                 c += 1;
                 t += n;
                 s = z;
             }
-            Step::Fails(_) => {
+            reading::Step::Fails(_) => {
                 return s;
             }
-            Step::TooDeep => {
+            reading::Step::TooDeep => {
                 return s;
             }
         }

@@ -11,7 +11,7 @@ use borrow.Author.Needs.{needs}
 use Rattle.rules.proofs.LoopLaws.{lineAt, sizeAt}
 use Rattle.rules.proofs.LineLaws.{firstSize-some, firstSize-le}
 use Rattle.line.specs.States.{stateOf}
-use Rattle.rereading.specs.Steps.{StepIs}
+use Rattle.reading.specs.Steps.{StepIs}
 use Rattle.rereading.proofs.Rereads.{ComeTo, come-start, grown, stopped, next-come, failed-come, deep-come, ended}
 use Rattle.rereading.proofs.reread_lines.Statement.{statement}
 use Rattle.rereading.proofs.reread_lines.Tie as tie

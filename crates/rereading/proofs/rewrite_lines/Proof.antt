@@ -10,7 +10,7 @@ use Rattle.rules.specs.Line.{LineReply, readLine}
 use Rattle.rules.proofs.LoopLaws.{lineAt, sizeAt}
 use Rattle.line.specs.States.{stateOf}
 use Rattle.line.specs.LineCuts.{RoomIn}
-use Rattle.rereading.specs.Steps.{StepIs}
+use Rattle.reading.specs.Steps.{StepIs}
 use Rattle.rereading.specs.Rewrites.{readFirst}
 use Rattle.rereading.proofs.Rewrites.{WrittenTo, written-start, grows, lines-kept, tokens-kept, Next, next-of, written-more, all-written, not-both, same-tokens}
 use Rattle.rereading.proofs.rewrite_lines.Statement.{statement}

@@ -8,9 +8,9 @@ use Rattle.rules.specs.Failure as rules-failure
 use Rattle.rules.specs.Failure.{failureRecord}
 use Rattle.rules.specs.Line.{Token, failed, overLimit, LineReply, lineReads, lineHalts}
 use Rattle.line.specs.States.{stateOf}
 use Rattle.reading.specs.Passes.{recordIn}
-use Rattle.rereading.specs.declared.Step.{Step}
-use Rattle.rereading.specs.declared.Step.the-variants.{Reads, Fails, TooDeep}
+use Rattle.reading.specs.declared.Step.{Step}
+use Rattle.reading.specs.declared.Step.the-variants.{Reads, Fails, TooDeep}
 
 -- a line's reply, for the line with this number that starts at this byte: with the widths left, where the next one starts, the number
 -- of tokens and the state; or the failure's record; or a level too many

@@ -1,4 +1,4 @@
--- `rereading::next_line` meets its contract.
+-- `reading::next_line` meets its contract.
 -- Assumes nothing.
 use Prim.Native.Nat.{ℕ, _+_, _-_, _*_, _≤_, _<_}
 use mathlib.Core.Path.{_≡_, refl, sym, ap, subst, _∙_}
@@ -15,10 +15,10 @@ use Rattle.laws.specs.Puts.{putIf}
 use Rattle.cut.specs.Cuts.{failureOf}
 use Rattle.line.specs.States.{stateOf}
 use Rattle.line.specs.LineCuts.{tokensIn, RoomIn, LevelsWithin}
 use Rattle.reading.proofs.Lines.{line-read, line-fails, line-deep, next-start, slice-is}
 use borrow.Author.Needs.{needs}
-use Rattle.rereading.proofs.next_line.Statement.{statement}
-use Rattle.rereading.proofs.next_line.Tie as tie
+use Rattle.reading.proofs.next_line.Statement.{statement}
+use Rattle.reading.proofs.next_line.Tie as tie
 
 add-position : tie.Need-add-position
 add-position c = search needs
