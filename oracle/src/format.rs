@@ -2,6 +2,7 @@
 
 use crate::generate::calls::Calls;
 use crate::generate::edits::{Edit, History};
+use crate::generate::free::FreeEdit;
 use crate::generate::lists::{altered_histories, recorded_histories, recorded_texts, ALTERED};
 use crate::page::{byte_value, header_reply, message, panel_column, scan_output, walk_step, Page};
 use crate::reading::{fresh_reading, Reply};
@@ -176,6 +177,19 @@ pub fn history_cases(history: &History) -> Vec<String> {
     let edits = history.edits.iter();
     cases.extend(edits.map(|edit| edit_line(edit, &edit_answers(&mut page, edit))));
     cases
+}
+
+/// A page, mostly unfaithful, and an edit of it, as one line without its LF; the answer is free.
+pub fn free_case(free: &FreeEdit) -> String {
+    let FreeEdit { page, edit } = free;
+    [
+        format!("{} {}", hex(&page.text), hex(&page.spare)),
+        format!("{} {} {}", page.n, page.m, page.k),
+        group(&page.lines),
+        group(&page.tokens),
+        format!("{} {} {}", edit.a, edit.b, hex(&edit.w)),
+    ]
+    .join(" ")
 }
 
 /// The calls around a page, with their replies, as one line without its LF.

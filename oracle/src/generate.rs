@@ -4,6 +4,7 @@
 
 pub mod calls;
 pub mod edits;
+pub mod free;
 pub mod lists;
 pub mod texts;
 pub mod utf8;

@@ -2,9 +2,11 @@
 
 extern crate alloc;
 
+pub mod case;
 pub mod examples;
 pub mod format;
 pub mod generate;
+pub mod kept;
 pub mod original;
 pub mod page;
 pub mod reading;

@@ -94,7 +94,7 @@ impl Page {
     }
 
     /// "7: header needs more text, line words or token words than lent"
-    fn fits(&self) -> Result<(), Refusal> {
+    pub fn fits(&self) -> Result<(), Refusal> {
         let [n, m, k] = [self.n, self.m, self.k].map(u64::from);
         let text = n <= self.text.len() as u64;
         let lines = LINE_WORDS as u64 * (m + 1) <= self.lines.len() as u64;

@@ -5,6 +5,7 @@ use crate::page::{Lengths, Page, NAMES};
 use crate::reading::fresh_reading;
 
 /// What the calls are given.
+#[derive(Debug, Clone, PartialEq, Eq)]
 pub struct Calls {
     pub page: Page,
     pub offset: u64,
@@ -13,7 +14,7 @@ pub struct Calls {
 }
 
 /// The page of a text in buffers of just its size; the empty page where the text does not read.
-fn page_of(text: &[u8]) -> Page {
+pub fn page_of(text: &[u8]) -> Page {
     let mut page = Page::with_lengths(Lengths {
         text: text.len(),
         spare: 0,

@@ -13,7 +13,7 @@ pub struct Edit {
 }
 
 /// A list of edits from the fresh page on, and the lengths of the page's buffers.
-#[derive(Debug, Clone)]
+#[derive(Debug, Clone, PartialEq, Eq)]
 pub struct History {
     pub lengths: Lengths,
     pub edits: Vec<Edit>,
@@ -229,8 +229,17 @@ fn change(random: &mut Random, text: &[u8]) -> Edit {
 
 /// Each of these edits, all proper, on the base text, and after an accepted one its inverse.
 pub fn each_on(base: &[u8], edits: impl IntoIterator<Item = Edit>) -> History {
+    each_within(AMPLE, base, edits)
+}
+
+/// The same in buffers of these lengths.
+pub fn each_within(
+    lengths: Lengths,
+    base: &[u8],
+    edits: impl IntoIterator<Item = Edit>,
+) -> History {
     let mut history = History {
-        lengths: AMPLE,
+        lengths,
         edits: vec![Edit::new(0, 0, base)],
     };
     let mut page = history.page();

@@ -2,7 +2,9 @@
 
 use super::edits::{each_on, every_range, history, Edit, History, AMPLE};
 use super::{texts, utf8, Random};
+use crate::case::Case;
 use crate::examples;
+use crate::kept::kept;
 use crate::page::Lengths;
 use crate::reading::{LINE_WORDS, MAX_BYTES, TOKEN_WORDS};
 use std::collections::HashSet;
@@ -44,6 +46,10 @@ pub fn recorded_texts() -> Vec<Vec<u8>> {
     all.extend(texts::every(texts::LAYOUT, 3));
     all.extend(texts::every(texts::LITERALS, 3));
     all.extend((0..600).map(|_| texts::small(&mut random)));
+    all.extend(kept("texts").into_iter().filter_map(|case| match case {
+        Case::Text(text) => Some(text),
+        _ => None,
+    }));
     let mut met = HashSet::new();
     all.retain(|text| met.insert(text.clone()));
     all
@@ -344,5 +350,9 @@ pub fn recorded_histories() -> Vec<History> {
     all.push(scalars());
     all.extend(bases.map(|base| every_range(base, &insertions)));
     all.extend((0..200).map(|_| history(&mut random, 12)));
+    all.extend(kept("edits").into_iter().filter_map(|case| match case {
+        Case::Edits(history) => Some(history),
+        _ => None,
+    }));
     all
 }

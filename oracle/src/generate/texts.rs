@@ -177,6 +177,37 @@ pub fn small(random: &mut Random) -> Vec<u8> {
     text
 }
 
+/// A piece again and again: a word, blanks, a comment, a string or signs longer than other lines have.
+fn run(random: &mut Random) -> String {
+    let pieces = [
+        "a", "x_1", " ", "\t", "\r", "1_", "é", "鮭", "(", ")", "# ", "|", "let ", "\n",
+    ];
+    let run = random.pick(&pieces).repeat(1 + random.below(70));
+    match random.below(6) {
+        0 => format!("\"{run}\""),
+        1 => format!("#{run}"),
+        2 => format!("//{run}"),
+        3 => format!("\"{run}"),
+        _ => run,
+    }
+}
+
+/// Some scripts one after another, and runs between their lines.
+pub fn long(random: &mut Random) -> Vec<u8> {
+    let mut text = Vec::new();
+    for _ in 0..2 + random.below(6) {
+        text.extend(script(random, 1_000));
+        if random.one_in(2) {
+            text.extend(run(random).bytes());
+        }
+        text.extend(random.pick(&["\n", "\n", "\r\n", " "]).bytes());
+    }
+    if random.one_in(8) {
+        damage(random, &mut text);
+    }
+    text
+}
+
 /// Fifteen to eighteen levels, in spaces and tabs, and a last line that may fail.
 pub fn ladder(random: &mut Random) -> Vec<u8> {
     let mut text = String::new();

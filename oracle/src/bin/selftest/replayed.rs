@@ -1,8 +1,11 @@
 //! The recorded lists that programs of the repository replay: what `record` writes now, and what it reaches.
 
 use crate::tally::Tally;
+use oracle::case::Case as AnyCase;
 use oracle::format::{recorded, Case};
 use oracle::generate::lists::{recorded_histories, recorded_texts};
+use oracle::generate::Random;
+use oracle::kept::{kept, kept_lines, read_back};
 use oracle::reading::{fresh_reading, LAST_KIND, TOKEN_WORDS};
 use std::collections::BTreeSet;
 use std::fs;
@@ -83,9 +86,34 @@ fn check_edits(tally: &mut Tally) {
     tally.equal(buffers, (1..=4).collect(), "buffers of edits recorded");
 }
 
-/// All of it.
+/// The lines of the kept lists are those of the cases that they are read back as.
+fn check_kept(tally: &mut Tally) {
+    for list in ["texts", "edits", "calls", "free"] {
+        let lines: Vec<String> = kept(list).iter().flat_map(AnyCase::lines).collect();
+        let held: Vec<&str> = kept_lines(list).lines().collect();
+        tally.expect(held == lines, || {
+            format!("oracle/kept/{list} has other answers")
+        });
+    }
+}
+
+/// A case of each list, read back from its lines, is the same.
+fn check_read_back(tally: &mut Tally) {
+    let mut random = Random::new(5);
+    for list in ["texts", "long", "edits", "scripts", "calls", "free"] {
+        for case in (0..100).filter_map(|_| AnyCase::generated(&mut random, list)) {
+            let back = read_back(case.list(), &case.lines().join("\n"));
+            let same = back == Some(vec![case.clone()]);
+            tally.expect(same, || format!("{case:?} is not read back"));
+        }
+    }
+}
+
+/// All of them.
 pub fn check(tally: &mut Tally) {
     check_files(tally);
+    check_kept(tally);
+    check_read_back(tally);
     check_reach(tally);
     check_edits(tally);
 }
