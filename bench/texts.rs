@@ -5,7 +5,10 @@ struct Random(u64);
 
 impl Random {
     fn below(&mut self, n: u64) -> u64 {
-        self.0 = self.0.wrapping_mul(6364136223846793005).wrapping_add(1442695040888963407);
+        self.0 = self
+            .0
+            .wrapping_mul(6364136223846793005)
+            .wrapping_add(1442695040888963407);
         (self.0 >> 33) % n
     }
 
@@ -14,7 +17,16 @@ impl Random {
     }
 }
 
-const PENS: [&str; 8] = ["north_1", "north_2", "mid_3", "mid_4", "south_5", "south_6", "nursery", "cleaner_fish"];
+const PENS: [&str; 8] = [
+    "north_1",
+    "north_2",
+    "mid_3",
+    "mid_4",
+    "south_5",
+    "south_6",
+    "nursery",
+    "cleaner_fish",
+];
 
 const NOTES: [&str; 6] = [
     "# the round of the morning, before the boat is out",
@@ -106,7 +118,10 @@ fn exactly(size: usize, mut part: impl FnMut(usize, &mut String)) -> Vec<u8> {
     }
     let mut bytes = text.into_bytes();
     bytes.truncate(size);
-    let whole = bytes.iter().rposition(|b| *b == b'\n').map_or(0, |lf| lf + 1);
+    let whole = bytes
+        .iter()
+        .rposition(|b| *b == b'\n')
+        .map_or(0, |lf| lf + 1);
     bytes[whole..].fill(b'#');
     bytes
 }
@@ -117,8 +132,9 @@ pub fn script(size: usize) -> Vec<u8> {
     exactly(size, |number, out| week(&mut r, number, out))
 }
 
+#[rustfmt::skip]
 const NAMES: [&str; 24] = [
-    "pen", "pens", "rate", "feed_rate", "oxygen", "depth_m", "silo", "blower", "valve", "line_pressure", "seconds", "pellet_size", //
+    "pen", "pens", "rate", "feed_rate", "oxygen", "depth_m", "silo", "blower", "valve", "line_pressure", "seconds", "pellet_size",
     "biomass", "i", "n", "total", "camera", "appetite", "max_rate", "water_temp", "fish_count", "daily_ration", "current", "spreader",
 ];
 
@@ -141,41 +157,89 @@ fn value(r: &mut Random) -> String {
 fn term(r: &mut Random) -> String {
     match r.below(3) {
         0 => value(r),
-        1 => format!("{} {} {}", value(r), r.pick(&["+", "-", "*", "/", "%"]), value(r)),
-        _ => format!("({} {} {}) {} {}", value(r), r.pick(&["+", "-"]), value(r), r.pick(&["*", "/"]), value(r)),
+        1 => format!(
+            "{} {} {}",
+            value(r),
+            r.pick(&["+", "-", "*", "/", "%"]),
+            value(r)
+        ),
+        _ => format!(
+            "({} {} {}) {} {}",
+            value(r),
+            r.pick(&["+", "-"]),
+            value(r),
+            r.pick(&["*", "/"]),
+            value(r)
+        ),
     }
 }
 
 /// A comparison, or two.
 fn test(r: &mut Random) -> String {
-    let one = format!("{} {} {}", value(r), r.pick(&["<", ">", "<=", ">=", "==", "!="]), term(r));
+    let one = format!(
+        "{} {} {}",
+        value(r),
+        r.pick(&["<", ">", "<=", ">=", "==", "!="]),
+        term(r)
+    );
     if r.below(3) == 0 {
         return format!("{one} {} {}", r.pick(&["&&", "||"]), r.pick(&NAMES));
     }
     one
 }
 
+/// A statement that opens no block, the one of this number.
+fn plain(r: &mut Random, what: u64, pad: &str, note: &str) -> String {
+    match what {
+        0 | 1 => {
+            let (name, kind) = (r.pick(&NAMES), r.pick(&KINDS));
+            format!("{pad}let {name}: {kind} = {};{note}\n", term(r))
+        }
+        2 => format!("{pad}{} := {};{note}\n", r.pick(&NAMES), term(r)),
+        3 => {
+            let (name, sign) = (r.pick(&NAMES), r.pick(&["+=", "-=", "*="]));
+            format!("{pad}{name} {sign} {};{note}\n", value(r))
+        }
+        4 => {
+            let (one, other) = (r.pick(&NAMES), r.pick(&NAMES));
+            format!("{pad}log(\"{one} {other}\", {});{note}\n", value(r))
+        }
+        5 => format!("{pad}return {};{note}\n", term(r)),
+        6 => format!("{pad}{}\n", r.pick(&NOTES)),
+        _ => {
+            let (one, two, three) = (value(r), term(r), value(r));
+            format!("{pad}spread({one},\n{pad}       {two},\n{pad}       {three});{note}\n")
+        }
+    }
+}
+
+/// The line that opens a block, the one of this number.
+fn opening(r: &mut Random, what: u64, pad: &str, note: &str) -> String {
+    match what {
+        8 => format!("{pad}if {}:{note}\n", test(r)),
+        9 => {
+            let (name, from) = (r.pick(&NAMES), r.below(4));
+            format!("{pad}for {name} in {from}..{}:{note}\n", value(r))
+        }
+        _ => format!("{pad}while {}:{note}\n", test(r)),
+    }
+}
+
 /// A statement at this depth, with the block that it opens.
 fn statement(r: &mut Random, depth: usize, out: &mut String) {
     let pad = "    ".repeat(depth);
-    let note = if r.below(8) == 0 { format!(" {}", r.pick(&NOTES)) } else { String::new() };
-    let what = r.below(if depth < 5 { 11 } else { 8 });
-    *out += &match what {
-        0 | 1 => format!("{pad}let {}: {} = {};{note}\n", r.pick(&NAMES), r.pick(&KINDS), term(r)),
-        2 => format!("{pad}{} := {};{note}\n", r.pick(&NAMES), term(r)),
-        3 => format!("{pad}{} {} {};{note}\n", r.pick(&NAMES), r.pick(&["+=", "-=", "*="]), value(r)),
-        4 => format!("{pad}log(\"{} {}\", {});{note}\n", r.pick(&NAMES), r.pick(&NAMES), value(r)),
-        5 => format!("{pad}return {};{note}\n", term(r)),
-        6 => format!("{pad}{}\n", r.pick(&NOTES)),
-        7 => format!("{pad}spread({},\n{pad}       {},\n{pad}       {});{note}\n", value(r), term(r), value(r)),
-        8 => format!("{pad}if {}:{note}\n", test(r)),
-        9 => format!("{pad}for {} in {}..{}:{note}\n", r.pick(&NAMES), r.below(4), value(r)),
-        _ => format!("{pad}while {}:{note}\n", test(r)),
+    let note = match r.below(8) {
+        0 => format!(" {}", r.pick(&NOTES)),
+        _ => String::new(),
     };
-    if 8 <= what {
-        for _ in 0..1 + r.below(3) {
-            statement(r, depth + 1, out);
-        }
+    let what = r.below(if depth < 5 { 11 } else { 8 });
+    if what < 8 {
+        *out += &plain(r, what, &pad, &note);
+        return;
+    }
+    *out += &opening(r, what, &pad, &note);
+    for _ in 0..1 + r.below(3) {
+        statement(r, depth + 1, out);
     }
 }
 
@@ -183,13 +247,47 @@ fn statement(r: &mut Random, depth: usize, out: &mut String) {
 pub fn drawn(size: usize) -> Vec<u8> {
     let mut r = Random(1);
     exactly(size, |_, out| {
-        *out += &format!("fn {}_{}({}: {})", r.pick(&NAMES), r.below(1000), r.pick(&NAMES), r.pick(&KINDS));
-        *out += &format!(" ->{}{}\n    requires {}\n", r.pick(&[" ", " ", "\n        "]), r.pick(&KINDS), test(&mut r));
+        *out += &format!(
+            "fn {}_{}({}: {})",
+            r.pick(&NAMES),
+            r.below(1000),
+            r.pick(&NAMES),
+            r.pick(&KINDS)
+        );
+        *out += &format!(
+            " ->{}{}\n    requires {}\n",
+            r.pick(&[" ", " ", "\n        "]),
+            r.pick(&KINDS),
+            test(&mut r)
+        );
         for _ in 0..3 + r.below(6) {
             statement(&mut r, 1, out);
         }
         *out += "\n";
     })
+}
+
+/// A comment line.
+pub const COMMENT: &str = "# the round of the morning, before the boat is out\n";
+
+/// The first line of an indented script.
+pub const TOP: &str = "Profile site\n";
+
+/// A script of which every line stands in a level that opens below the first line.
+pub fn indented(size: usize) -> Vec<u8> {
+    let script = String::from_utf8(script(size)).unwrap();
+    let mut text = TOP.to_string();
+    for line in script.split_inclusive('\n') {
+        let room = size - text.len();
+        if line.len() + 4 > room {
+            break;
+        }
+        text += "    ";
+        text += line;
+    }
+    let mut bytes = text.into_bytes();
+    bytes.resize(size, b'#');
+    bytes
 }
 
 /// These bytes again and again, up to this size.

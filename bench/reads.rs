@@ -1,0 +1,65 @@
+//! `read` against the Rust lexer and a plain copy.
+
+use crate::clock::{copy, medians, timed};
+use crate::original::lexer;
+use crate::page::{agree, Page};
+use crate::texts;
+use std::hint::black_box;
+
+/// A row: the Rust's call and the freeing of what it made, our call, and its shares.
+fn row(name: &str, text: Vec<u8>, turns: usize) {
+    let mut page = Page::new(&text);
+    if page.reply[0] == 3 {
+        page.text.truncate(text.len());
+    }
+    let holds = agree(&page);
+    let text = String::from_utf8(text).unwrap();
+    let mut copied = vec![0; text.len()];
+    let times = medians(turns, || {
+        let (call, made) = timed(|| lexer::lex_tokens_with_authority(black_box(&text)));
+        let (free, ()) = timed(|| drop(made));
+        let (ours, ()) = timed(|| page.read(black_box(text.as_bytes())));
+        vec![call, free, ours, copy(text.as_bytes(), &mut copied)]
+    });
+    let [call, free, ours, copied] = times[..] else {
+        return;
+    };
+    let (whole, alone) = (ours / (call + free), ours / call);
+    let (kib, a_byte) = (text.len() >> 10, ours * 1e6 / text.len() as f64);
+    println!(
+        "| {name} | {kib} | {holds} | {call:.2} | {free:.2} | {ours:.2} | {whole:.2} | {alone:.2} | {:.0} | {a_byte:.1} |",
+        ours / copied
+    );
+}
+
+/// A script of this size with this front and this end.
+fn framed(front: &str, size: usize, end: &str) -> Vec<u8> {
+    let script = texts::script(size - front.len() - end.len());
+    [front.as_bytes(), &script, end.as_bytes()].concat()
+}
+
+/// Every text at these sizes.
+pub fn table(sizes: &[usize], turns: usize) {
+    println!("| text | KiB | holds | Rust call ms | Rust free ms | read ms | of call and free | of the call | copies | ns a byte |");
+    println!("|---|---|---|---|---|---|---|---|---|---|");
+    let repeated = texts::repeated;
+    for &size in sizes {
+        let texts = [
+            ("script", texts::script(size)),
+            ("statements drawn at random", texts::drawn(size)),
+            ("one line", repeated("pen_4 := rate; ", size)),
+            ("one word", repeated("a", size)),
+            ("LFs", repeated("\n", size)),
+            ("a bracket open from the top", framed("f(\n", size, "")),
+            ("brackets, each line one deeper", repeated("f(\n", size)),
+            ("a level open from the top", texts::indented(size)),
+            ("signs of one byte", repeated("()[]{}+-*;\n", size)),
+            ("comments", repeated(texts::COMMENT, size)),
+            ("keywords", repeated("let while true return record\n", size)),
+            ("a failure at the end", framed("", size, "\n&")),
+        ];
+        for (name, text) in texts {
+            row(name, text, turns);
+        }
+    }
+}
