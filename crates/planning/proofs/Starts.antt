@@ -5,10 +5,11 @@ use mathlib.Core.Path.{_≡_, refl, sym, ap, _∙_}
 use mathlib.Core.Bool.{Bool, true, false, _&&_}
 use mathlib.Core.List.{List, [], _∷_, _++_, append-nil}
 use native.Mathlib.Omega.{arith}
+use native.Mathlib.Nat.{zero-add}
 use native.Mathlib.Numerals.{add-one}
 use lib.Dec.{leb, eqb}
-use lib.ListN.{length, getD, take, length-take, drop-of-length-le}
-use lib.Seq.{take-suc, sets, sets-eq}
+use lib.ListN.{length, getD, take, drop, length-take, drop-of-length-le, take-append-drop}
+use lib.Seq.{take-suc, take-append-add, length-take-le, sets, sets-eq}
 use mir.Val.{boolByte}
 use borrow.Author.Tests.{le-leb, lt-leb, leb-true}
 use Rattle.rules.specs.Lists.{if_then_else_, bit}
@@ -16,22 +17,31 @@ use Rattle.rules.specs.Reading.{isLF, countLF}
 use Rattle.rules.proofs.ListLaws.{and-true}
 use Rattle.planning.specs.Starts.{lineWord, isUsable}
 
-one-more : (xs : List ℕ) (b : ℕ) → countLF (xs ++ (b ∷ [])) ≡ countLF xs + bit (eqb b 10)
+count-append : (xs ys : List ℕ) → countLF (xs ++ ys) ≡ countLF xs + countLF ys
 unfolding countLF
-one-more [] b = go (eqb b 10)
+count-append [] ys = sym (zero-add (countLF ys))
+count-append (x ∷ xs) ys = go (eqb x 10) (count-append xs ys)
   where
-    go : (x : Bool) → (if x then 1 else 0) ≡ 0 + bit x
-    go true = refl
-    go false = refl
-one-more (x ∷ xs) b = go (eqb x 10) (one-more xs b)
-  where
-    go : (y : Bool) → countLF (xs ++ (b ∷ [])) ≡ countLF xs + bit (eqb b 10)
-        → (if y then suc (countLF (xs ++ (b ∷ []))) else countLF (xs ++ (b ∷ []))) ≡ (if y then suc (countLF xs) else countLF xs) + bit (eqb b 10)
-    go true e = omega (arith, e)
+    go : (y : Bool) → countLF (xs ++ ys) ≡ countLF xs + countLF ys → (if y then suc (countLF (xs ++ ys)) else countLF (xs ++ ys)) ≡ (if y then suc (countLF xs) else countLF xs) + countLF ys
+    go true e = omega arith
     go false e = e
 
+-- of the first x bytes and of n more
+pub count-part : (t : List ℕ) (x n : ℕ) → x ≤ length t → countLF (take (x + n) t) ≡ countLF (take x t) + countLF (take n (drop x t))
+count-part t x n h =
+    let whole : take (x + n) t ≡ take x t ++ take n (drop x t) = (λ i. take (sym (length-take-le x t h) i + n) (sym (take-append-drop x t) i)) ∙ take-append-add (take x t) (drop x t) n in
+    ap countLF whole ∙ count-append (take x t) (take n (drop x t))
+
+count-one : (b : ℕ) → countLF (b ∷ []) ≡ bit (eqb b 10)
+unfolding countLF
+count-one b = go (eqb b 10)
+  where
+    go : (y : Bool) → (if y then 1 else 0) ≡ bit y
+    go true = refl
+    go false = refl
+
 pub count-more : (t : List ℕ) (x : ℕ) → x < length t → countLF (take (x + 1) t) ≡ countLF (take x t) + bit (eqb (getD t x 0) 10)
-count-more t x h = ap countLF (ap (λ (n : ℕ). take n t) (add-one x) ∙ take-suc t x 0 h) ∙ one-more (take x t) (getD t x 0)
+count-more t x h = ap countLF (ap (λ (n : ℕ). take n t) (add-one x) ∙ take-suc t x 0 h) ∙ count-append (take x t) (getD t x 0 ∷ []) ∙ ap (λ (n : ℕ). countLF (take x t) + n) (count-one (getD t x 0))
 
 pub count-le : (xs : List ℕ) → countLF xs ≤ length xs
 unfolding countLF

@@ -10,7 +10,32 @@ ghost use Rattle.header.specs.Pages.{page};
 ghost use Rattle.planning.specs.Starts.{lineWord, stateFrom, isUsable};
 ghost use Rattle.planning.specs.Plans.{roomed, beginLine, stopPlan, stopAnswer, endPlan, editOf, editedText, PlanIs};
 
-// The LFs of the first a bytes.
+// The LFs of a part; a count in one byte is compiled to sums of vectors.
+fn count_part(part: &[u8]) -> u8
+    requires { ⌜ length (now part) ≤ 255 ⌝ }
+    ensures { λ r. ⌜ r ≡ countLF (now (part .entry)) ⌝ }
+{
+    let mut n: u8 = 0;
+    let mut x: usize = 0;
+    while x < part.len() {
+        n += (part[x] == 10) as u8;
+        x += 1;
+    }
+    n
+}
+
+// Where the part that begins at x ends.
+fn part_end(x: usize, a: usize) -> usize
+    requires { ⌜ x < a ⌝ }
+    ensures { λ r. ⌜ (x < r) × ((r ≤ a) × (r ≤ x + 128)) ⌝ }
+{
+    if a - x < 128 {
+        return a;
+    }
+    x + 128
+}
+
+// The LFs of the first a bytes, part by part.
 pub fn count_lf(text: &[u8], a: usize) -> usize
     requires { ⌜ a ≤ length (now text) ⌝ }
     ensures { λ r. ⌜ r ≡ countLF (take a (now (text .entry))) ⌝ }
@@ -18,8 +43,9 @@ pub fn count_lf(text: &[u8], a: usize) -> usize
     let mut n: usize = 0;
     let mut x: usize = 0;
     while x < a {
-        n += (text[x] == 10) as usize;
-        x += 1;
+        let end = part_end(x, a);
+        n += count_part(&text[x..end]) as usize;
+        x = end;
     }
     n
 }
