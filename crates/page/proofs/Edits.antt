@@ -179,7 +179,7 @@ module _ (n m k : ℕ) (text spare lines tokens : List ℕ) (a b : ℕ) (w : Lis
                 r = record { head = header size m′ k′; lines = lineWords u lines m p; tokens = tokenWords u lines tokens k p }
 
                 counted : (p .lines ≡ length (written u lines p)) × (p .tokens ≡ tokenSum (written u lines p))
-                counted = written-sizes u lines m k p pl
+                counted = written-sizes pl
 
                 tail-lines : length (lineTail u lines m p) ≡ 21 * (p .lines + (m + 1 - p .j))
                 tail-lines =

@@ -70,7 +70,7 @@ module _ (n m k : ℕ) (text lines tokens : List ℕ) (ed : Edit) (bh : Behind (
   j-le = omega (arith, pl .j-le, long)
 
   sizes : (p .lines ≡ length N) × (p .tokens ≡ tokenSum N)
-  sizes = written-sizes u lines m k p pl
+  sizes = written-sizes pl
 
   small-records : Small (recordsOf (x .entries) (x .last))
   unfolding readLines recordedBy

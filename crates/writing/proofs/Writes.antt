@@ -1,15 +1,14 @@
 -- What the writes of a plan come to.
 -- Assumes nothing.
-use Prim.Native.Nat.{ℕ, zero, suc, _+_, _-_, _*_, _≤_, _<_}
-use mathlib.Core.Path.{_≡_, refl, sym, ap, subst, _∙_}
+use Prim.Native.Nat.{ℕ, _+_, _*_, _≤_}
+use mathlib.Core.Path.{_≡_, refl, sym, ap, _∙_}
 use mathlib.Core.Bool.{Bool, true, false}
 use mathlib.Core.List.{List, [], _∷_, _++_}
 use native.Mathlib.Omega.{arith}
 use lib.ListN.{length, take, drop, length-append, length-drop, length-replicate, take-append-drop}
 use lib.Seq.{sets, length-take-le}
-use Rattle.rules.specs.Lists.{if_then_else_}
 use Rattle.rules.specs.Line.{State, tokenAt, dedents}
-use Rattle.rules.specs.Reading.{linesOf, Entry, Reading, reads, halts, linesRead, byteSum, tokenSum}
+use Rattle.rules.specs.Reading.{linesOf, Reading, reads, halts, linesRead, tokenSum}
 use Rattle.rules.specs.Replies.{maxLevels}
 use Rattle.rules.specs.Records.{lineRecord, lineRecords, tokenWords, tokenRecords, endEntry, withEnd}
 use Rattle.rules.proofs.LineLaws.{total, total-append, total-lines}
@@ -19,16 +18,36 @@ use Rattle.laws.specs.Puts.{putIf}
 use Rattle.laws.proofs.Sets.{sets-before}
 use Rattle.line.specs.States.{stateOf}
 use Rattle.line.specs.declared.State as line-state
-use Rattle.rereading.specs.Rewrites.{readFirst, RoomFrom, Reaches}
+use Rattle.rereading.specs.Rewrites.{RoomFrom, Reaches}
 use Rattle.rereading.proofs.Rewrites.{more-lines, more-tokens}
 use Rattle.planning.specs.Starts.{stateFrom}
-use Rattle.planning.specs.Plans.{linesAfter, tokensAfter, newLines, plannedLines, ReadsAs, Planned, Roomy}
+use Rattle.planning.specs.Plans.{newLines, plannedLines, ReadsAs, Planned, Roomy}
 use Rattle.planning.specs.declared.Plan.{Plan}
-use Rattle.writing.specs.Writes.{written, lineTail, tokenTail}
+use Rattle.writing.specs.Writes.{written}
+
+-- the numbers of a plan, each far within its word
+pub record Bounds (m k : ℕ) (p : Plan) : Type 0 where
+  pub few-lines : m ≤ 1_048_576
+  pub i : p .i ≤ 1_048_576
+  pub j : p .j ≤ m + 1
+  pub lines : p .lines ≤ 1_048_577
+  pub count : p .count ≤ 1_048_577
+  pub from : p .from ≤ k
+  pub few-tokens : k ≤ 2_097_152
+  pub tokens : p .first + p .tokens ≤ 2_097_152
+  pub read : p .first + p .read ≤ 2_097_152
+  pub old : p .old ≤ 4_294_967_295
+  pub new : p .new ≤ 1_048_576
+
+-- the code's state and widths, after the lines read again
+pub record Reached (R : Reading) (s : line-state.State) (ws : List ℕ) : Type 0 where
+  pub few : s .levels ≤ 16
+  pub wide : length ws ≡ 16
+  pub is : Reaches R (stateOf s ws)
 
 -- What a plan reads.
 
-module _ (u lines : List ℕ) (m k : ℕ) (p : Plan) (pl : Planned u lines m k p) where
+module _ {u lines : List ℕ} {m k : ℕ} {p : Plan} (pl : Planned u lines m k p) where
   abbrev R : Reading
   R = plannedLines u lines p
 
@@ -56,6 +75,23 @@ module _ (u lines : List ℕ) (m k : ℕ) (p : Plan) (pl : Planned u lines m k p
           by : (b : Bool) → p .lines ≡ length (newLines b (reads es z)) → p .tokens ≡ tokenSum (newLines b (reads es z)) → (p .count ≤ p .lines) × (p .read ≤ p .tokens)
           by true l t = (omega (arith, r .0, l, length-append es (endEntry z ∷ [])), omega (arith, r .1, t, tokenSum-append es (endEntry z ∷ [])))
           by false l t = (omega (arith, r .0, l), omega (arith, r .1, t))
+
+  -- what the plan's sums and casts need
+  pub bounds : {linesLen tokensLen : ℕ} → Roomy m k linesLen tokensLen p → length u ≤ 1_048_576 → Bounds m k p
+  bounds r small =
+      record {
+        few-lines = pl .m-le;
+        i = omega (arith, pl .i-le, pl .m-le);
+        j = pl .j-le;
+        lines = pl .lines-le;
+        count = omega (arith, counts .0, pl .lines-le);
+        from = pl .from-le;
+        few-tokens = pl .k-le;
+        tokens = omega (arith, r .few);
+        read = omega (arith, r .few, counts .1);
+        old = pl .old-le;
+        new = omega (arith, new-le, small);
+      }
 
   -- room for the lines read again
   pub room-from : (linesLen tokensLen : ℕ) → Roomy m k linesLen tokensLen p → RoomFrom R (p .count) (p .i) (p .first) linesLen tokensLen
@@ -135,34 +171,32 @@ module _ (u lines : List ℕ) (m k : ℕ) (p : Plan) (pl : Planned u lines m k p
       f ∙ ap (λ (x : List ℕ). sets x (5 * p .first) new) (e ∙ ap (λ (n : ℕ). sets l n moved) at) ∙ sets-before new moved l (5 * p .first)
 
   -- room as the code has it, after the moves
-  pub room-moved : (x : Reading) → x ≡ R → (nl nt ll tl : ℕ) → nl ≡ ll → nt ≡ tl → Roomy m k ll tl p → RoomFrom x (p .count) (p .i) (p .first) nl nt
-  room-moved x e nl nt ll tl el et r =
-      subst (λ (y : Reading). RoomFrom y (p .count) (p .i) (p .first) nl nt) (sym e)
-      (subst (λ (n : ℕ). RoomFrom R (p .count) (p .i) (p .first) n nt) (sym el) (subst (λ (n : ℕ). RoomFrom R (p .count) (p .i) (p .first) ll n) (sym et) (room-from ll tl r)))
+  pub room-moved : {x : Reading} {nl nt ll tl : ℕ} → x ≡ R → nl ≡ ll → nt ≡ tl → Roomy m k ll tl p → RoomFrom x (p .count) (p .i) (p .first) nl nt
+  room-moved {ll = ll} {tl = tl} e el et r = rw (e, el, et) (room-from ll tl r)
 
   -- the same with the code's state and its widths
-  module _ (s : line-state.State) (ws : List ℕ) (few : s .levels ≤ 16) (wide : length ws ≡ 16) (hz : Reaches R (stateOf s ws)) where
+  module _ {s : line-state.State} {ws : List ℕ} (h : Reached R s ws) where
     levels-are : length (take (s .levels) ws) ≡ s .levels
     levels-are = length-take-le (s .levels) ws (omega arith)
 
-    pub end-room : (nl nt ll tl : ℕ) → nl ≡ ll → nt ≡ tl → Roomy m k ll tl p → p .ends ≡ true
+    pub end-room : {nl nt ll tl : ℕ} → nl ≡ ll → nt ≡ tl → Roomy m k ll tl p → p .ends ≡ true
         → (21 * (p .i + p .count) + 21 ≤ nl) × (5 * (p .first + p .read + s .levels) ≤ nt)
-    end-room nl nt ll tl el et r en =
-        let x = room-end ll tl r (stateOf s ws) hz (s .levels) levels-are en in
+    end-room {ll = ll} {tl = tl} el et r en =
+        let x = room-end ll tl r (stateOf s ws) (h .is) (s .levels) levels-are en in
         (omega (arith, x .0), omega (arith, x .1))
 
-    -- all the writes of the token words and of the line words
-    pub lines-written : (l l₁ l₂ l₃ moved : List ℕ) (x : Reading) → x ≡ R → l₁ ≡ sets l (21 * (p .i + p .lines)) moved
+    -- all the writes of the line words and of the token words
+    pub lines-written : {x : Reading} {l₁ l₂ l₃ : List ℕ} (l moved : List ℕ) → x ≡ R → l₁ ≡ sets l (21 * (p .i + p .lines)) moved
         → l₂ ≡ sets l₁ (21 * p .i) (lineRecords (p .base) (p .first) (linesRead x))
         → l₃ ≡ putIf (p .ends) l₂ (21 * (p .i + p .count)) (lineRecord (p .new) (p .first + p .read) (stateOf s ws))
         → l₃ ≡ sets l (21 * p .i) (lineRecords (p .base) (p .first) (written u lines p) ++ moved)
-    lines-written l l₁ l₂ l₃ moved x e e1 e2 e3 =
-        lines-joined l l₁ l₃ moved e1 (lines-put l₁ l₂ l₃ (stateOf s ws) hz (e2 ∙ ap (λ (r : Reading). sets l₁ (21 * p .i) (lineRecords (p .base) (p .first) (linesRead r))) e) e3)
+    lines-written {l₁ = l₁} {l₂ = l₂} {l₃ = l₃} l moved e e1 e2 e3 =
+        lines-joined l l₁ l₃ moved e1 (lines-put l₁ l₂ l₃ (stateOf s ws) (h .is) (e2 ∙ ap (λ (r : Reading). sets l₁ (21 * p .i) (lineRecords (p .base) (p .first) (linesRead r))) e) e3)
 
-    pub tokens-written : (l l₁ l₂ l₃ moved : List ℕ) (x : Reading) → x ≡ R → l₁ ≡ sets l (5 * (p .first + p .tokens)) moved
+    pub tokens-written : {x : Reading} {l₁ l₂ l₃ : List ℕ} (l moved : List ℕ) → x ≡ R → l₁ ≡ sets l (5 * (p .first + p .tokens)) moved
         → l₂ ≡ sets l₁ (5 * p .first) (tokenRecords (p .base) (p .i + 1) (linesRead x))
         → l₃ ≡ putIf (p .ends) l₂ (5 * (p .first + p .read)) (tokenWords (p .new) (p .i + p .count + 1) (dedents (s .levels)))
         → l₃ ≡ sets l (5 * p .first) (tokenRecords (p .base) (p .i + 1) (written u lines p) ++ moved)
-    tokens-written l l₁ l₂ l₃ moved x e e1 e2 e3 =
+    tokens-written {l₁ = l₁} {l₂ = l₂} {l₃ = l₃} l moved e e1 e2 e3 =
         tokens-joined l l₁ l₃ moved e1
-        (tokens-put l₁ l₂ l₃ (stateOf s ws) hz (s .levels) levels-are (e2 ∙ ap (λ (r : Reading). sets l₁ (5 * p .first) (tokenRecords (p .base) (p .i + 1) (linesRead r))) e) e3)
+        (tokens-put l₁ l₂ l₃ (stateOf s ws) (h .is) (s .levels) levels-are (e2 ∙ ap (λ (r : Reading). sets l₁ (5 * p .first) (tokenRecords (p .base) (p .i + 1) (linesRead r))) e) e3)

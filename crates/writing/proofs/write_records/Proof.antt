@@ -1,30 +1,58 @@
 -- `writing::write_records` meets its contract.
 -- Assumes nothing.
-use Prim.Native.Nat.{ℕ, _+_, _-_, _*_, _≤_, _<_}
+use Prim.Native.Nat.{ℕ, _-_}
 use mathlib.Core.Path.{_≡_, refl, sym, ap, subst, _∙_}
 use mathlib.Core.List.{List}
 use native.Mathlib.Omega.{arith}
 use lib.ListN.{length, take, drop, length-drop, length-take}
-use lib.Seq.{sets, take-all, length-take-le}
+use lib.Seq.{take-all}
 use Rattle.rules.specs.Line.{State}
-use Rattle.rules.specs.Reading.{Reading, linesRead}
-use Rattle.rules.specs.Records.{lineRecords, tokenRecords}
+use Rattle.rules.specs.Reading.{Reading}
 use Rattle.line.specs.States.{stateOf}
-use Rattle.rereading.specs.Rewrites.{readFirst, RoomFrom, Reaches}
+use Rattle.rereading.specs.Rewrites.{readFirst, Reaches}
 use Rattle.planning.specs.Starts.{lineWord}
-use Rattle.planning.specs.Plans.{plannedLines, Planned, Roomy}
-use Rattle.writing.proofs.Writes.{new-le, counts, room-moved, end-room, lines-written, tokens-written}
+use Rattle.planning.specs.Plans.{plannedLines, Planned}
+use Rattle.writing.proofs.Writes.{Bounds, bounds, Reached, room-moved, end-room, lines-written, tokens-written}
 use borrow.Author.Needs.{needs}
 use Rattle.writing.proofs.write_records.Statement.{statement}
 use Rattle.writing.proofs.write_records.Tie as tie
+
+-- The places after the calls, each back to the call before it.
+
+abbrev start : tie.After-load-state → tie.Start
+start c = c .before .before .before .before .before .before
+
+abbrev loaded : tie.After-move-tokens → tie.After-load-state
+loaded c = c .before .before .before .before .before .before .before .before .before
+
+abbrev tokens-moved : tie.After-move-lines → tie.After-move-tokens
+tokens-moved c = c .before .before .before .before .before .before .before .before .before .before
+
+abbrev lines-moved : tie.After-keyword-table → tie.After-move-lines
+lines-moved c = c .before .before .before .before .before .before .before
+
+abbrev tabled : tie.After-rewrite-lines → tie.After-keyword-table
+tabled c = c .before .before .before .before .before .before .before .before .before .before
+
+abbrev rewritten : tie.After-put-end → tie.After-rewrite-lines
+rewritten c = c .before .before .before .before .before .before .before .before .before
+
+-- The plan, and the bounds of its numbers.
+
+abbrev planned : (s : tie.Start) → Planned (s .args .edited .now) (s .args .lines .now) (s .args .m) (s .args .k) (s .args .p)
+planned s = s .pre .1 .0
+
+bounds-of : (s : tie.Start) → Bounds (s .args .m) (s .args .k) (s .args .p)
+bounds-of s = bounds (planned s) (s .pre .1 .1) (s .pre .0 .0)
 
 slice-aggregate-load-state : tie.Need-slice-aggregate-load-state
 slice-aggregate-load-state c = search needs
 
 load-state-requires : tie.Need-load-state-requires
 load-state-requires c κs =
-    let p = c .before .before .before .before .before .pre in
-    ((omega (arith, p .1 .0 .i-le, p .1 .0 .m-le), (omega (arith, p .1 .0 .i-le, p .0 .1 .0), refl)), p .1 .0 .levels)
+    let s = c .before .before .before .before .before in
+    let pl = planned s in
+    ((omega (arith, bounds-of s .i), (omega (arith, pl .i-le, s .pre .0 .1 .0), refl)), pl .levels)
 
 add-move-tokens : tie.Need-add-move-tokens
 add-move-tokens c = search needs
@@ -33,104 +61,59 @@ sub-move-tokens : tie.Need-sub-move-tokens
 sub-move-tokens c = search needs
 
 cast-move-tokens : tie.Need-cast-move-tokens
-cast-move-tokens c =
-    let a = c .before .before .before .before .before .before .before .before .before .before .before .args in
-    let p = c .before .before .before .before .before .before .before .before .before .before .before .pre in
-    omega (arith, p .1 .0 .old-le, new-le (a .edited .now) (a .lines .now) (a .m) (a .k) (a .p) (p .1 .0), p .0 .0, p .1 .0 .j-le, p .1 .0 .m-le, p .1 .0 .lines-le, p .1 .0 .i-le, p .1 .1 .few, p .1 .0 .k-le, p .1 .0 .from-le, p .1 .0 .first-le)
+cast-move-tokens c = omega (arith, bounds-of (start (c .before .before .before .before .before)))
 
 cast-move-tokens-2 : tie.Need-cast-move-tokens-2
-cast-move-tokens-2 c =
-    let a = c .before .before .before .before .before .before .before .before .before .before .before .before .args in
-    let p = c .before .before .before .before .before .before .before .before .before .before .before .before .pre in
-    omega (arith, p .1 .0 .old-le, new-le (a .edited .now) (a .lines .now) (a .m) (a .k) (a .p) (p .1 .0), p .0 .0, p .1 .0 .j-le, p .1 .0 .m-le, p .1 .0 .lines-le, p .1 .0 .i-le, p .1 .1 .few, p .1 .0 .k-le, p .1 .0 .from-le, p .1 .0 .first-le)
+cast-move-tokens-2 c = omega (arith, bounds-of (start (c .before .before .before .before .before .before)))
 
 cast-move-tokens-3 : tie.Need-cast-move-tokens-3
-cast-move-tokens-3 c =
-    let a = c .before .before .before .before .before .before .before .before .before .before .before .before .before .args in
-    let p = c .before .before .before .before .before .before .before .before .before .before .before .before .before .pre in
-    omega (arith, p .1 .0 .old-le, new-le (a .edited .now) (a .lines .now) (a .m) (a .k) (a .p) (p .1 .0), p .0 .0, p .1 .0 .j-le, p .1 .0 .m-le, p .1 .0 .lines-le, p .1 .0 .i-le, p .1 .1 .few, p .1 .0 .k-le, p .1 .0 .from-le, p .1 .0 .first-le)
+cast-move-tokens-3 c = omega (arith, bounds-of (start (c .before .before .before .before .before .before .before)))
 
 add-move-tokens-2 : tie.Need-add-move-tokens-2
-add-move-tokens-2 c =
-    let a = c .before .before .before .before .before .before .before .before .before .before .before .before .before .args in
-    let p = c .before .before .before .before .before .before .before .before .before .before .before .before .before .pre in
-    omega (arith, p .1 .0 .old-le, new-le (a .edited .now) (a .lines .now) (a .m) (a .k) (a .p) (p .1 .0), p .0 .0, p .1 .0 .j-le, p .1 .0 .m-le, p .1 .0 .lines-le, p .1 .0 .i-le, p .1 .1 .few, p .1 .0 .k-le, p .1 .0 .from-le, p .1 .0 .first-le)
+add-move-tokens-2 c = omega (arith, bounds-of (start (c .before .before .before .before .before .before .before)))
 
 add-move-tokens-3 : tie.Need-add-move-tokens-3
-add-move-tokens-3 c =
-    let a = c .before .before .before .before .before .before .before .before .before .before .before .before .before .before .args in
-    let p = c .before .before .before .before .before .before .before .before .before .before .before .before .before .before .pre in
-    omega (arith, p .1 .0 .old-le, new-le (a .edited .now) (a .lines .now) (a .m) (a .k) (a .p) (p .1 .0), p .0 .0, p .1 .0 .j-le, p .1 .0 .m-le, p .1 .0 .lines-le, p .1 .0 .i-le, p .1 .1 .few, p .1 .0 .k-le, p .1 .0 .from-le, p .1 .0 .first-le)
+add-move-tokens-3 c = omega (arith, bounds-of (start (c .before .before .before .before .before .before .before .before)))
 
 cast-move-tokens-4 : tie.Need-cast-move-tokens-4
-cast-move-tokens-4 c =
-    let a = c .before .before .before .before .before .before .before .before .before .before .before .before .before .before .args in
-    let p = c .before .before .before .before .before .before .before .before .before .before .before .before .before .before .pre in
-    omega (arith, p .1 .0 .old-le, new-le (a .edited .now) (a .lines .now) (a .m) (a .k) (a .p) (p .1 .0), p .0 .0, p .1 .0 .j-le, p .1 .0 .m-le, p .1 .0 .lines-le, p .1 .0 .i-le, p .1 .1 .few, p .1 .0 .k-le, p .1 .0 .from-le, p .1 .0 .first-le)
+cast-move-tokens-4 c = omega (arith, bounds-of (start (c .before .before .before .before .before .before .before .before)))
 
 add-move-tokens-4 : tie.Need-add-move-tokens-4
-add-move-tokens-4 c =
-    let a = c .before .before .before .before .before .before .before .before .before .before .before .before .before .before .args in
-    let p = c .before .before .before .before .before .before .before .before .before .before .before .before .before .before .pre in
-    omega (arith, p .1 .0 .old-le, new-le (a .edited .now) (a .lines .now) (a .m) (a .k) (a .p) (p .1 .0), p .0 .0, p .1 .0 .j-le, p .1 .0 .m-le, p .1 .0 .lines-le, p .1 .0 .i-le, p .1 .1 .few, p .1 .0 .k-le, p .1 .0 .from-le, p .1 .0 .first-le)
+add-move-tokens-4 c = omega (arith, bounds-of (start (c .before .before .before .before .before .before .before .before)))
 
 move-tokens-requires : tie.Need-move-tokens-requires
 move-tokens-requires c κs =
-    let p = c .before .before .before .before .before .before .before .before .before .before .before .before .before .before .pre in
-    (omega (arith, p .0 .1 .1, p .1 .0 .from-le), omega (arith, p .1 .1 .token-room))
+    let s = start (c .before .before .before .before .before .before .before .before) in
+    (omega (arith, s .pre .0 .1 .1, planned s .from-le), omega (arith, s .pre .1 .1 .token-room))
 
 add-move-lines : tie.Need-add-move-lines
-add-move-lines c =
-    let a = c .before .before .before .before .before .before .before .before .before .before .before .before .before .before .before .before .before .before .before .args in
-    let p = c .before .before .before .before .before .before .before .before .before .before .before .before .before .before .before .before .before .before .before .pre in
-    omega (arith, p .1 .0 .old-le, new-le (a .edited .now) (a .lines .now) (a .m) (a .k) (a .p) (p .1 .0), p .0 .0, p .1 .0 .j-le, p .1 .0 .m-le, p .1 .0 .lines-le, p .1 .0 .i-le, p .1 .1 .few, p .1 .0 .k-le, p .1 .0 .from-le, p .1 .0 .first-le)
+add-move-lines c = omega (arith, bounds-of (start (loaded (c .before .before .before .before))))
 
 add-move-lines-2 : tie.Need-add-move-lines-2
-add-move-lines-2 c =
-    let a = c .before .before .before .before .before .before .before .before .before .before .before .before .before .before .before .before .before .before .before .args in
-    let p = c .before .before .before .before .before .before .before .before .before .before .before .before .before .before .before .before .before .before .before .pre in
-    omega (arith, p .1 .0 .old-le, new-le (a .edited .now) (a .lines .now) (a .m) (a .k) (a .p) (p .1 .0), p .0 .0, p .1 .0 .j-le, p .1 .0 .m-le, p .1 .0 .lines-le, p .1 .0 .i-le, p .1 .1 .few, p .1 .0 .k-le, p .1 .0 .from-le, p .1 .0 .first-le)
+add-move-lines-2 c = omega (arith, bounds-of (start (loaded (c .before .before .before .before))))
 
 sub-move-lines : tie.Need-sub-move-lines
-sub-move-lines c =
-    let a = c .before .before .before .before .before .before .before .before .before .before .before .before .before .before .before .before .before .before .before .before .args in
-    let p = c .before .before .before .before .before .before .before .before .before .before .before .before .before .before .before .before .before .before .before .before .pre in
-    omega (arith, p .1 .0 .old-le, new-le (a .edited .now) (a .lines .now) (a .m) (a .k) (a .p) (p .1 .0), p .0 .0, p .1 .0 .j-le, p .1 .0 .m-le, p .1 .0 .lines-le, p .1 .0 .i-le, p .1 .1 .few, p .1 .0 .k-le, p .1 .0 .from-le, p .1 .0 .first-le)
+sub-move-lines c = omega (arith, bounds-of (start (loaded (c .before .before .before .before .before))))
 
 cast-move-lines : tie.Need-cast-move-lines
-cast-move-lines c =
-    let a = c .before .before .before .before .before .before .before .before .before .before .before .before .before .before .before .before .before .before .before .before .before .args in
-    let p = c .before .before .before .before .before .before .before .before .before .before .before .before .before .before .before .before .before .before .before .before .before .pre in
-    omega (arith, p .1 .0 .old-le, new-le (a .edited .now) (a .lines .now) (a .m) (a .k) (a .p) (p .1 .0), p .0 .0, p .1 .0 .j-le, p .1 .0 .m-le, p .1 .0 .lines-le, p .1 .0 .i-le, p .1 .1 .few, p .1 .0 .k-le, p .1 .0 .from-le, p .1 .0 .first-le)
+cast-move-lines c = omega (arith, bounds-of (start (loaded (c .before .before .before .before .before .before))))
 
 cast-move-lines-2 : tie.Need-cast-move-lines-2
-cast-move-lines-2 c =
-    let a = c .before .before .before .before .before .before .before .before .before .before .before .before .before .before .before .before .before .before .before .before .before .before .args in
-    let p = c .before .before .before .before .before .before .before .before .before .before .before .before .before .before .before .before .before .before .before .before .before .before .pre in
-    omega (arith, p .1 .0 .old-le, new-le (a .edited .now) (a .lines .now) (a .m) (a .k) (a .p) (p .1 .0), p .0 .0, p .1 .0 .j-le, p .1 .0 .m-le, p .1 .0 .lines-le, p .1 .0 .i-le, p .1 .1 .few, p .1 .0 .k-le, p .1 .0 .from-le, p .1 .0 .first-le)
+cast-move-lines-2 c = omega (arith, bounds-of (start (loaded (c .before .before .before .before .before .before .before))))
 
 cast-move-lines-3 : tie.Need-cast-move-lines-3
-cast-move-lines-3 c =
-    let a = c .before .before .before .before .before .before .before .before .before .before .before .before .before .before .before .before .before .before .before .before .before .before .before .args in
-    let p = c .before .before .before .before .before .before .before .before .before .before .before .before .before .before .before .before .before .before .before .before .before .before .before .pre in
-    omega (arith, p .1 .0 .old-le, new-le (a .edited .now) (a .lines .now) (a .m) (a .k) (a .p) (p .1 .0), p .0 .0, p .1 .0 .j-le, p .1 .0 .m-le, p .1 .0 .lines-le, p .1 .0 .i-le, p .1 .1 .few, p .1 .0 .k-le, p .1 .0 .from-le, p .1 .0 .first-le)
+cast-move-lines-3 c = omega (arith, bounds-of (start (loaded (c .before .before .before .before .before .before .before .before))))
 
 add-move-lines-3 : tie.Need-add-move-lines-3
-add-move-lines-3 c =
-    let a = c .before .before .before .before .before .before .before .before .before .before .before .before .before .before .before .before .before .before .before .before .before .before .before .before .args in
-    let p = c .before .before .before .before .before .before .before .before .before .before .before .before .before .before .before .before .before .before .before .before .before .before .before .before .pre in
-    omega (arith, p .1 .0 .old-le, new-le (a .edited .now) (a .lines .now) (a .m) (a .k) (a .p) (p .1 .0), p .0 .0, p .1 .0 .j-le, p .1 .0 .m-le, p .1 .0 .lines-le, p .1 .0 .i-le, p .1 .1 .few, p .1 .0 .k-le, p .1 .0 .from-le, p .1 .0 .first-le)
+add-move-lines-3 c = omega (arith, bounds-of (start (loaded (c .before .before .before .before .before .before .before .before .before))))
 
 cast-move-lines-4 : tie.Need-cast-move-lines-4
-cast-move-lines-4 c =
-    let a = c .before .before .before .before .before .before .before .before .before .before .before .before .before .before .before .before .before .before .before .before .before .before .before .before .args in
-    let p = c .before .before .before .before .before .before .before .before .before .before .before .before .before .before .before .before .before .before .before .before .before .before .before .before .pre in
-    omega (arith, p .1 .0 .old-le, new-le (a .edited .now) (a .lines .now) (a .m) (a .k) (a .p) (p .1 .0), p .0 .0, p .1 .0 .j-le, p .1 .0 .m-le, p .1 .0 .lines-le, p .1 .0 .i-le, p .1 .1 .few, p .1 .0 .k-le, p .1 .0 .from-le, p .1 .0 .first-le)
+cast-move-lines-4 c = omega (arith, bounds-of (start (loaded (c .before .before .before .before .before .before .before .before .before))))
 
 move-lines-requires : tie.Need-move-lines-requires
 move-lines-requires c κs =
-    let p = c .before .before .before .before .before .before .before .before .before .before .before .before .before .before .before .before .before .before .before .before .before .before .before .before .pre in
-    (omega (arith, p .0 .1 .0, p .1 .0 .j-le), omega (arith, p .1 .1 .line-room))
+    let s = start (loaded (c .before .before .before .before .before .before .before .before .before)) in
+    (omega (arith, s .pre .0 .1 .0, planned s .j-le), omega (arith, s .pre .1 .1 .line-room))
 
 class-table-requires : tie.Need-class-table-requires
 class-table-requires c κs = search needs
@@ -147,42 +130,59 @@ sign-table-requires c κs = search needs
 keyword-table-requires : tie.Need-keyword-table-requires
 keyword-table-requires c κs = search needs
 
+-- The lines read again.
+
+abbrev state-at : tie.After-keyword-table → tie.After-load-state
+state-at c = loaded (tokens-moved (lines-moved c))
+
 sub-rewrite-lines : tie.Need-sub-rewrite-lines
-sub-rewrite-lines c = c .before .before .before .before .before .before .before .before .before .before .before .before .before .before .before .before .before .before .before .before .before .before .before .before .before .before .before .before .before .before .before .before .before .before .before .before .before .pre .1 .0 .base-le
+sub-rewrite-lines c = planned (start (state-at (c .before .before .before .before .before))) .base-le
 
 part-rewrite-lines-start : tie.Need-part-rewrite-lines-start
-part-rewrite-lines-start c = c .before .before .before .before .before .before .before .before .before .before .before .before .before .before .before .before .before .before .before .before .before .before .before .before .before .before .before .before .before .before .before .before .before .before .before .before .before .pre .1 .0 .base-le
+part-rewrite-lines-start c = planned (start (state-at (c .before .before .before .before .before))) .base-le
 
 part-rewrite-lines-end : tie.Need-part-rewrite-lines-end
 part-rewrite-lines-end c = search needs
 
 slice-aggregate-rewrite-lines : tie.Need-slice-aggregate-rewrite-lines
-slice-aggregate-rewrite-lines c = sym (c .before .before .before .before .before .before .before .before .before .before .before .before .before .before .before .before .before .before .before .before .before .before .before .before .before .before .before .before .before .before .before .before .before .before .before .load-state .kept .1 .1 .0)
+slice-aggregate-rewrite-lines c = sym (state-at (c .before .before .before .before .before .before .before .before .before) .load-state .kept .1 .1 .0)
+
+-- the lines read again, as the code has the rest of the text and the state, are the planned ones
+rest-read : (c : tie.After-load-state)
+    → let a = start c .args in let E = a .edited .now in let base = a .p .base in
+    readFirst (a .p .count) (stateOf (c .load-state .result) (c .load-state .last .1 .1 .0)) (take (length E - base) (drop base E)) ≡ plannedLines E (a .lines .now) (a .p)
+rest-read c =
+    let a = start c .args in
+    let E = a .edited .now in
+    let base = a .p .base in
+    let rest : take (length E - base) (drop base E) ≡ drop base E = take-all (length E - base) (drop base E) (omega (arith, length-drop base E)) in
+    λ x. readFirst (a .p .count) (c .load-state .ensures .0 x) (rest x)
 
 rewrite-lines-requires : tie.Need-rewrite-lines-requires
 rewrite-lines-requires c κs =
-    let a = c .before .before .before .before .before .before .before .before .before .before .before .before .before .before .before .before .before .before .before .before .before .before .before .before .before .before .before .before .before .before .before .before .before .before .before .before .before .before .before .before .before .args in
-    let load-state = c .before .before .before .before .before .before .before .before .before .before .before .before .before .before .before .before .before .before .before .before .before .before .before .before .before .before .before .before .before .before .before .before .before .before .before .load-state in
-    let p = c .before .before .before .before .before .before .before .before .before .before .before .before .before .before .before .before .before .before .before .before .before .before .before .before .before .before .before .before .before .before .before .before .before .before .before .before .before .before .before .before .before .pre in
-    let E = a .edited .now in
-    let base = a .p .base in
-    let er : take (length E - base) (drop base E) ≡ drop base E = take-all (length E - base) (drop base E) (omega (arith, length-drop base E)) in
-    let e : readFirst (a .p .count) (stateOf (load-state .result) _) (take (length E - base) (drop base E)) ≡ plannedLines E (a .lines .now) (a .p) = λ x. readFirst (a .p .count) (load-state .ensures .0 x) (er x) in
-    let d : load-state .result .depth ≡ lineWord (a .lines .now) (a .p .i) 2 = ap (λ (y : State). y .depth) (load-state .ensures .0) in (
-      c .before .before .before .before .before .before .before .before .before .before .before .before .before .class-table .ensures,
+    let t = c .before .before .before .before .before .before .before .before .before in
+    let ml = lines-moved t in
+    let mt = tokens-moved ml in
+    let l = loaded mt in
+    let s = start l in
+    let pl = planned s in
+    let E = s .args .edited .now in
+    let base = s .args .p .base in
+    let d : l .load-state .result .depth ≡ lineWord (s .args .lines .now) (s .args .p .i) 2 = ap (λ (y : State). y .depth) (l .load-state .ensures .0) in (
+      t .before .before .before .before .class-table .ensures,
       (
-        c .before .before .before .before .before .before .before .before .before .before .before .before .reach-table .ensures,
+        t .before .before .before .reach-table .ensures,
         (
-          c .before .before .before .before .before .before .before .before .before .before .before .sign-index .ensures,
+          t .before .before .sign-index .ensures,
           (
-            c .before .before .before .before .before .before .before .before .before .before .sign-table .ensures,
+            t .before .sign-table .ensures,
             (
-              c .before .before .before .before .before .before .before .before .before .keyword-table .ensures,
+              t .keyword-table .ensures,
               (
-                (omega (arith, length-take (length E - base) (drop base E), length-drop base E, p .0 .0, p .1 .0 .base-le), p .1 .0 .number),
+                (omega (arith, length-take (length E - base) (drop base E), length-drop base E, s .pre .0 .0, pl .base-le), pl .number),
                 (
-                  (omega (arith, d, p .1 .0 .depth), (load-state .ensures .1, load-state .kept .1 .1 .0)),
-                  room-moved (a .edited .now) (a .lines .now) (a .m) (a .k) (a .p) (p .1 .0) _ e _ _ (length (a .lines .now)) (length (a .tokens .now)) (c .before .before .before .before .before .before .before .before .before .before .before .before .before .before .before .before .move-lines .kept .0) (c .before .before .before .before .before .before .before .before .before .before .before .before .before .before .before .before .before .before .before .before .before .before .before .before .before .before .move-tokens .kept .0) (p .1 .1),
+                  (omega (arith, d, pl .depth), (l .load-state .ensures .1, l .load-state .kept .1 .1 .0)),
+                  room-moved pl (rest-read l) (ml .move-lines .kept .0) (mt .move-tokens .kept .0) (s .pre .1 .1),
                 ),
               ),
             ),
@@ -191,49 +191,57 @@ rewrite-lines-requires c κs =
       ),
     )
 
+-- After the lines are written again.
+
+abbrev began : tie.After-rewrite-lines → tie.Start
+began c = start (state-at (tabled c))
+
+-- the widths, and how long the buffers are
+abbrev widths-at : tie.After-rewrite-lines → List ℕ
+widths-at c = c .rewrite-lines .last .1 .1 .1 .1 .1 .1 .1 .1 .1 .1 .1 .1 .0
+
+reached : (c : tie.After-rewrite-lines) → Reached (plannedLines (began c .args .edited .now) (began c .args .lines .now) (began c .args .p)) (c .rewrite-lines .result) (widths-at c)
+reached c =
+    let l = state-at (tabled c) in
+    record {
+      few = c .rewrite-lines .ensures .0 .1;
+      wide = c .rewrite-lines .kept .1 .1 .1 .1 .1 .1 .1 .1 .1 .1 .1 .1 .0 ∙ l .load-state .kept .1 .1 .0;
+      is = subst (λ (r : Reading). Reaches r (stateOf (c .rewrite-lines .result) (widths-at c))) (rest-read l) (c .rewrite-lines .ensures .0 .0);
+    }
+
+lines-long : (c : tie.After-rewrite-lines) → length (c .rewrite-lines .last .1 .1 .1 .1 .1 .1 .0) ≡ length (began c .args .lines .now)
+lines-long c = c .rewrite-lines .kept .1 .1 .1 .1 .1 .1 .0 ∙ lines-moved (tabled c) .move-lines .kept .0
+
+tokens-long : (c : tie.After-rewrite-lines) → length (c .rewrite-lines .last .1 .1 .1 .1 .1 .1 .1 .0) ≡ length (began c .args .tokens .now)
+tokens-long c = c .rewrite-lines .kept .1 .1 .1 .1 .1 .1 .1 .0 ∙ tokens-moved (lines-moved (tabled c)) .move-tokens .kept .0
+
 slice-aggregate-put-end : tie.Need-slice-aggregate-put-end
 slice-aggregate-put-end c = search needs
 
 put-end-requires : tie.Need-put-end-requires
 put-end-requires c κs =
-    let a = c .before .before .before .before .before .before .before .before .before .before .before .before .before .before .before .before .before .before .before .before .before .before .before .before .before .before .before .before .before .before .before .before .before .before .before .before .before .before .before .before .before .before .before .before .before .before .before .before .before .before .args in
-    let load-state = c .before .before .before .before .before .before .before .before .before .before .before .before .before .before .before .before .before .before .before .before .before .before .before .before .before .before .before .before .before .before .before .before .before .before .before .before .before .before .before .before .before .before .before .before .load-state in
-    let p = c .before .before .before .before .before .before .before .before .before .before .before .before .before .before .before .before .before .before .before .before .before .before .before .before .before .before .before .before .before .before .before .before .before .before .before .before .before .before .before .before .before .before .before .before .before .before .before .before .before .before .pre in
-    let rewrite-lines = c .before .before .before .before .before .before .before .before .rewrite-lines in
-    let E = a .edited .now in
-    let base = a .p .base in
-    let er : take (length E - base) (drop base E) ≡ drop base E = take-all (length E - base) (drop base E) (omega (arith, length-drop base E)) in
-    let e : readFirst (a .p .count) (stateOf (load-state .result) _) (take (length E - base) (drop base E)) ≡ plannedLines E (a .lines .now) (a .p) = λ x. readFirst (a .p .count) (load-state .ensures .0 x) (er x) in
-    let hw = rewrite-lines .kept .1 .1 .1 .1 .1 .1 .1 .1 .1 .1 .1 .1 .0 ∙ load-state .kept .1 .1 .0 in
-    let hz = subst (λ (r : Reading). Reaches r (stateOf (rewrite-lines .result) (rewrite-lines .last .1 .1 .1 .1 .1 .1 .1 .1 .1 .1 .1 .1 .0))) e (rewrite-lines .ensures .0 .0) in (
-      (hw, rewrite-lines .ensures .0 .1),
-      (
-        (omega (arith, p .1 .0 .i-le, p .1 .0 .m-le), (omega (arith, counts (a .edited .now) (a .lines .now) (a .m) (a .k) (a .p) (p .1 .0) .0, p .1 .0 .lines-le, new-le (a .edited .now) (a .lines .now) (a .m) (a .k) (a .p) (p .1 .0), p .0 .0), (omega (arith, new-le (a .edited .now) (a .lines .now) (a .m) (a .k) (a .p) (p .1 .0), p .0 .0), omega (arith, p .1 .1 .few, counts (a .edited .now) (a .lines .now) (a .m) (a .k) (a .p) (p .1 .0) .1)))),
-        end-room (a .edited .now) (a .lines .now) (a .m) (a .k) (a .p) (p .1 .0) (rewrite-lines .result) (rewrite-lines .last .1 .1 .1 .1 .1 .1 .1 .1 .1 .1 .1 .1 .0) (rewrite-lines .ensures .0 .1) hw hz _ _ (length (a .lines .now)) (length (a .tokens .now)) (rewrite-lines .kept .1 .1 .1 .1 .1 .1 .0 ∙ c .before .before .before .before .before .before .before .before .before .before .before .before .before .before .before .before .before .before .before .before .before .before .before .before .before .move-lines .kept .0) (rewrite-lines .kept .1 .1 .1 .1 .1 .1 .1 .0 ∙ c .before .before .before .before .before .before .before .before .before .before .before .before .before .before .before .before .before .before .before .before .before .before .before .before .before .before .before .before .before .before .before .before .before .before .before .move-tokens .kept .0) (p .1 .1),
-      ),
-    )
+    let r = c .before .before .before .before .before .before .before .before in
+    let s = began r in
+    let b = bounds-of s in
+    let h = reached r in
+    ((h .wide, h .few), ((b .i, (b .count, (b .new, b .read))), end-room (planned s) h (lines-long r) (tokens-long r) (s .pre .1 .1)))
 
 same-length : tie.Need-same-length
-same-length c = c .before .before .before .before .put-end .kept .0 ∙ c .before .before .before .before .before .before .before .before .before .before .before .before .before .rewrite-lines .kept .1 .1 .1 .1 .1 .1 .0 ∙ c .before .before .before .before .before .before .before .before .before .before .before .before .before .before .before .before .before .before .before .before .before .before .before .before .before .before .before .before .before .before .move-lines .kept .0
+same-length c = let e = c .before .before .before .before in e .put-end .kept .0 ∙ lines-long (rewritten e)
 
 same-length-2 : tie.Need-same-length-2
-same-length-2 c = c .before .before .before .before .put-end .kept .1 .0 ∙ c .before .before .before .before .before .before .before .before .before .before .before .before .before .rewrite-lines .kept .1 .1 .1 .1 .1 .1 .1 .0 ∙ c .before .before .before .before .before .before .before .before .before .before .before .before .before .before .before .before .before .before .before .before .before .before .before .before .before .before .before .before .before .before .before .before .before .before .before .before .before .before .before .before .move-tokens .kept .0
+same-length-2 c = let e = c .before .before .before .before in e .put-end .kept .1 .0 ∙ tokens-long (rewritten e)
 
 returns : tie.Need-returns
 returns c =
-    let a = c .before .before .before .before .before .before .before .before .before .before .before .before .before .before .before .before .before .before .before .before .before .before .before .before .before .before .before .before .before .before .before .before .before .before .before .before .before .before .before .before .before .before .before .before .before .before .before .before .before .before .before .before .before .before .before .args in
-    let load-state = c .before .before .before .before .before .before .before .before .before .before .before .before .before .before .before .before .before .before .before .before .before .before .before .before .before .before .before .before .before .before .before .before .before .before .before .before .before .before .before .before .before .before .before .before .before .before .before .before .before .load-state in
-    let p = c .before .before .before .before .before .before .before .before .before .before .before .before .before .before .before .before .before .before .before .before .before .before .before .before .before .before .before .before .before .before .before .before .before .before .before .before .before .before .before .before .before .before .before .before .before .before .before .before .before .before .before .before .before .before .before .pre in
-    let put-end = c .before .before .before .before .put-end in
-    let rewrite-lines = c .before .before .before .before .before .before .before .before .before .before .before .before .before .rewrite-lines in
-    let E = a .edited .now in
-    let base = a .p .base in
-    let er : take (length E - base) (drop base E) ≡ drop base E = take-all (length E - base) (drop base E) (omega (arith, length-drop base E)) in
-    let e : readFirst (a .p .count) (stateOf (load-state .result) _) (take (length E - base) (drop base E)) ≡ plannedLines E (a .lines .now) (a .p) = λ x. readFirst (a .p .count) (load-state .ensures .0 x) (er x) in
-    let hw = rewrite-lines .kept .1 .1 .1 .1 .1 .1 .1 .1 .1 .1 .1 .1 .0 ∙ load-state .kept .1 .1 .0 in
-    let hz = subst (λ (r : Reading). Reaches r (stateOf (rewrite-lines .result) (rewrite-lines .last .1 .1 .1 .1 .1 .1 .1 .1 .1 .1 .1 .1 .0))) e (rewrite-lines .ensures .0 .0) in (
-      lines-written (a .edited .now) (a .lines .now) (a .m) (a .k) (a .p) (p .1 .0) (rewrite-lines .result) (rewrite-lines .last .1 .1 .1 .1 .1 .1 .1 .1 .1 .1 .1 .1 .0) (rewrite-lines .ensures .0 .1) hw hz (a .lines .now) _ _ _ _ _ e (c .before .before .before .before .before .before .before .before .before .before .before .before .before .before .before .before .before .before .before .before .before .before .before .before .before .before .before .before .before .before .move-lines .ensures) (rewrite-lines .ensures .1 .0) (put-end .ensures .0),
-      tokens-written (a .edited .now) (a .lines .now) (a .m) (a .k) (a .p) (p .1 .0) (rewrite-lines .result) (rewrite-lines .last .1 .1 .1 .1 .1 .1 .1 .1 .1 .1 .1 .1 .0) (rewrite-lines .ensures .0 .1) hw hz (a .tokens .now) _ _ _ _ _ e (c .before .before .before .before .before .before .before .before .before .before .before .before .before .before .before .before .before .before .before .before .before .before .before .before .before .before .before .before .before .before .before .before .before .before .before .before .before .before .before .before .move-tokens .ensures) (rewrite-lines .ensures .1 .1) (put-end .ensures .1),
+    let e = c .before .before .before .before in
+    let r = rewritten e in
+    let ml = lines-moved (tabled r) in
+    let mt = tokens-moved ml in
+    let s = began r in
+    let read = rest-read (loaded mt) in (
+      lines-written (planned s) (reached r) (s .args .lines .now) _ read (ml .move-lines .ensures) (r .rewrite-lines .ensures .1 .0) (e .put-end .ensures .0),
+      tokens-written (planned s) (reached r) (s .args .tokens .now) _ read (mt .move-tokens .ensures) (r .rewrite-lines .ensures .1 .1) (e .put-end .ensures .1),
     )
 
 pub write-records-spec : {M : Type 1} → statement M
