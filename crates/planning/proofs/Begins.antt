@@ -1,7 +1,7 @@
 -- Where reading again begins, test by test.
 -- Assumes nothing.
 use Prim.Native.Nat.{ℕ, _+_, _≤_, _<_}
-use mathlib.Core.Path.{_≡_, refl, sym, ap, _∙_}
+use mathlib.Core.Path.{_≡_, refl, ap, _∙_}
 use mathlib.Core.Bool.{Bool, true, false}
 use mathlib.Core.List.{List}
 use native.Mathlib.Omega.{arith}
@@ -12,6 +12,7 @@ use Rattle.rules.specs.Lists.{if_then_else_}
 use Rattle.rules.specs.Reading.{countLF}
 use Rattle.planning.specs.Starts.{isUsable}
 use Rattle.planning.specs.Plans.{beginLine}
+use Rattle.planning.proofs.Starts.{Usable, usable-true}
 
 module _ (text lines : List ℕ) (m k a : ℕ) where
   abbrev at : ℕ
@@ -40,7 +41,8 @@ module _ (text lines : List ℕ) (m k a : ℕ) where
     pub m-le : m ≤ 1_048_576
     pub k-le : k ≤ 2_097_152
     pub i-is : i ≡ at
-    pub usable : isUsable lines i k a ≡ true
+    pub within : i ≤ m
+    pub usable : Usable lines i k a
 
   pub begun : (i : ℕ) → i ≡ beginLine text lines m k a → i ≤ m → Begun i
   begun i e h = go (ltb 1_048_576 m) refl (ltb 2_097_152 k) refl (ltb m at) refl (isUsable lines at k a) refl e
@@ -52,4 +54,4 @@ module _ (text lines : List ℕ) (m k a : ℕ) where
       go false e1 false e2 true e3 b4 e4 q = absurd (omega (arith, q))
       go false e1 false e2 false e3 false e4 q = absurd (omega (arith, q))
       go false e1 false e2 false e3 true e4 q =
-          record { m-le = ltb-false 1_048_576 m e1; k-le = ltb-false 2_097_152 k e2; i-is = q; usable = ap (λ (n : ℕ). isUsable lines n k a) q ∙ e4 }
+          record { m-le = ltb-false 1_048_576 m e1; k-le = ltb-false 2_097_152 k e2; i-is = q; within = h; usable = usable-true lines i k a (ap (λ (n : ℕ). isUsable lines n k a) q ∙ e4) }

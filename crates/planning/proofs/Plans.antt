@@ -1,6 +1,6 @@
 -- A plan on a faithful page is the one on paper.
 -- Assumes nothing.
-use Prim.Native.Nat.{ℕ, zero, suc, _+_, _-_, _*_, _≤_, _<_}
+use Prim.Native.Nat.{ℕ, suc, _+_, _*_, _≤_, _<_}
 use mathlib.Core.Path.{_≡_, refl, sym, ap, subst, _∙_}
 use mathlib.Core.Bool.{Bool, true, false, not}
 use mathlib.Core.List.{List, [], _∷_, _++_, append-assoc, append-nil}
@@ -13,34 +13,32 @@ use borrow.Author.Tests.{lt-ltb, le-ltb, ltb-true, ltb-false}
 use Rattle.rules.specs.Lists.{if_then_else_, bit}
 use Rattle.rules.specs.Line.{State, initial, tokenAt, Halt, failed, overLimit}
 use Rattle.rules.specs.Reading.{linesOf, countLF, Entry, Reading, reads, halts, readFrom, byteSum, tokenSum}
-use Rattle.rules.specs.Replies.{maxBytes, maxLevels, barge, Unread, lexical, atLine, Refusal, reading, short, unfit, linesBuffer, tokensBuffer, refusedIf, firstOf, unless, isTooLong}
-use Rattle.rules.specs.Records.{lineNeed, tokenNeed, packed, stateWords, lineRecords, endEntry, withEnd, Records, recordsOf, recordTests, haltRefusal, recordedBy, FreshReading, recorded, unread, readLines}
+use Rattle.rules.specs.Replies.{maxBytes, maxLevels, barge, lexical, atLine, reading, short, linesBuffer, tokensBuffer, refusedIf, firstOf, unless, isTooLong}
+use Rattle.rules.specs.Records.{lineNeed, tokenNeed, packed, stateWords, lineRecords, endEntry, withEnd, Records, recordsOf, recordTests, haltRefusal, recordedBy, recorded, unread, readLines}
 use Rattle.rules.specs.Page.{Page, pageText, pageRecords, Faithful}
-use Rattle.rules.specs.StopRule.{Edit, edited, keptFrom, rereadCount}
-use Rattle.rules.specs.Edit.{Outcome, late, done, stored}
+use Rattle.rules.specs.StopRule.{Edit, edited, rereadCount}
+use Rattle.rules.specs.Edit.{late, stored}
 use Rattle.rules.proofs.LineLaws.{total, drop-lines}
 use Rattle.rules.proofs.ReadingLaws.{stateAt, parts, read-sizes, byteSum-append, tokenSum-append}
 use Rattle.rules.proofs.RecordLaws.{Behind, behind}
 use Rattle.rules.proofs.StateLaws.{unpacked}
 use Rattle.rules.proofs.EditedLaws.{length-edited}
 use Rattle.rules.proofs.MendLaws.{kept-size, kept-length}
-use Rattle.rules.proofs.LoopLaws.{ReadTo, fromLine, fromByte, fromState, with-end}
-use Rattle.rules.proofs.BoundLaws.{Small, fresh-small, GrownTo, read-grown}
+use Rattle.rules.proofs.LoopLaws.{ReadTo, with-end}
+use Rattle.rules.proofs.BoundLaws.{fresh-small, read-grown}
 use Rattle.rules.proofs.PageLaws.{Fits, page-length, fresh-inverse}
-use Rattle.rereading.specs.Words.{startWord, stateIn}
+use Rattle.rereading.specs.Words.{stateIn}
 use Rattle.rereading.specs.Rereads.{Old, Lines, RereadIs}
 use Rattle.rereading.specs.declared.Reread.{Reread}
 use Rattle.rereading.specs.declared.Reread.the-variants.{Stops, Ends, Fails, TooDeep}
 use Rattle.reading.specs.declared.FailureRecord.{FailureRecord}
 use Rattle.rereading.proofs.Words.{state-words}
 use Rattle.rereading.proofs.OldLines.{start-is, first-is, state-is, levels-at}
-use Rattle.header.specs.Pages.{page}
 use Rattle.planning.specs.Starts.{lineWord, stateFrom, isUsable}
-use Rattle.planning.specs.Plans.{linesAfter, tokensAfter, roomed, beginLine, stopPlan, stopAnswer, endPlan, newLines, plannedLines, ReadsAs, Planned, Roomy, Mends, editOf, recordOut, OnPaper, PlanIs}
+use Rattle.planning.specs.Plans.{linesAfter, tokensAfter, roomed, beginLine, stopPlan, stopAnswer, endPlan, newLines, plannedLines, ReadsAs, Planned, Mends, recordOut, OnPaper, PlanIs}
 use Rattle.planning.specs.declared.Plan.{Plan}
-use Rattle.planning.specs.declared.PlanAnswer.{PlanAnswer}
 use Rattle.planning.specs.declared.PlanAnswer.the-variants.{Writes, ShortLines, ShortTokens, Unfit}
-use Rattle.planning.proofs.Starts.{Usable, usable-true, true-usable}
+use Rattle.planning.proofs.Starts.{Usable, true-usable}
 use Rattle.planning.proofs.Begins.{Begun, begin-at}
 
 -- A state from its words.
@@ -85,23 +83,53 @@ pub short-text : (t : List ℕ) → isTooLong barge t ≡ false → length t ≤
 unfolding isTooLong
 short-text t e = ltb-false maxBytes (length t) e
 
--- A page of these parts that fits, a proper edit of it, and the edited text within the limit.
-module _ (n m k : ℕ) (text lines tokens : List ℕ) (a b : ℕ) (w : List ℕ) (f : Fits (page n m k text lines tokens)) (order : a ≤ b) (inside : b ≤ n)
-    (small : length (edited (take n text) (editOf a b w)) ≤ 1_048_576) where
-  abbrev pg : Page
-  pg = page n m k text lines tokens
+-- A page that fits, a proper edit of it, and the edited text within the limit.
+pub record Editable (pg : Page) (ed : Edit) : Type 0 where
+  pub fits : Fits pg
+  pub order : ed .a ≤ ed .b
+  pub inside : ed .b ≤ pg .head .n
+  pub small : length (edited (pageText pg) ed) ≤ 1_048_576
+
+module _ {pg : Page} {ed : Edit} (ok : Editable pg ed) where
+  abbrev n : ℕ
+  n = pg .head .n
+
+  abbrev m : ℕ
+  m = pg .head .m
+
+  abbrev k : ℕ
+  k = pg .head .k
+
+  abbrev text : List ℕ
+  text = pg .text
+
+  abbrev lines : List ℕ
+  lines = pg .lines
+
+  abbrev tokens : List ℕ
+  tokens = pg .tokens
+
+  abbrev a : ℕ
+  a = ed .a
+
+  abbrev b : ℕ
+  b = ed .b
+
+  abbrev w : List ℕ
+  w = ed .w
 
   abbrev t : List ℕ
-  t = take n text
-
-  abbrev ed : Edit
-  ed = editOf a b w
+  t = pageText pg
 
   abbrev u : List ℕ
   u = edited t ed
 
   long : length t ≡ n
-  long = page-length pg f
+  long = page-length pg (ok .fits)
+
+  -- the edited text holds its first a bytes and w
+  pub edited-holds : a + length w ≤ length u
+  edited-holds = omega (arith, length-edited t ed (omega (arith, long)))
 
   -- The lines behind a faithful page.
   module _ (bh : Behind t (pageRecords pg)) where
@@ -141,7 +169,7 @@ module _ (n m k : ℕ) (text lines tokens : List ℕ) (a b : ℕ) (w : List ℕ)
 
     state-of : (x : ℕ) → x ≤ m → stateFrom lines x ≡ stateAt es end x
     state-of x h =
-        state-from lines x (stateAt es end x) (omega (arith, f .lines)) (levels-at t es end (bh .reads-are) x) (state-is lines m es end m-is lines-are x h)
+        state-from lines x (stateAt es end x) (omega (arith, ok .fits .lines)) (levels-at t es end (bh .reads-are) x) (state-is lines m es end m-is lines-are x h)
 
     -- a reading of the first x lines
     read-at : (x : ℕ) → ReadTo maxLevels initial t (byteSum (take x es)) (take x es) (stateAt es end x)
@@ -157,7 +185,7 @@ module _ (n m k : ℕ) (text lines tokens : List ℕ) (a b : ℕ) (w : List ℕ)
     levels-word : (x : ℕ) → x ≤ m → lineWord lines x 4 ≤ 16
     unfolding stateWords
     levels-word x h =
-        let w = state-words lines x (omega (arith, f .lines)) (stateAt es end x) in
+        let w = state-words lines x (omega (arith, ok .fits .lines)) (stateAt es end x) in
         let q = sym w ∙ state-is lines m es end m-is lines-are x h in
         let l : getD lines (21 * x + 2 + 2) 0 ≡ length (stateAt es end x .widths) = cc in
         let n4 : 21 * x + 4 ≡ 21 * x + 2 + 2 = omega arith in
@@ -185,9 +213,9 @@ module _ (n m k : ℕ) (text lines tokens : List ℕ) (a b : ℕ) (w : List ℕ)
           }
 
       -- what reading again knows of the page
-      pub old-of : (base : ℕ) → base ≡ lineWord lines i 0 → Old (drop base u) lines base i m b (a + length w) (stateFrom lines i)
-      old-of base eb =
-          let bi : base ≡ byteSum (take (countLF (take a t)) es) = eb ∙ start-of i within ∙ ap (λ (x : ℕ). byteSum (take x es)) e in
+      pub old-of : Old (drop (lineWord lines i 0) u) lines (lineWord lines i 0) i m b (a + length w) (stateFrom lines i)
+      old-of =
+          let bi : lineWord lines i 0 ≡ byteSum (take (countLF (take a t)) es) = start-of i within ∙ ap (λ (x : ℕ). byteSum (take x es)) e in
           record {
             text = t;
             entries = es;
@@ -197,8 +225,8 @@ module _ (n m k : ℕ) (text lines tokens : List ℕ) (a b : ℕ) (w : List ℕ)
             lines-are = lines-are;
             ed = ed;
             begins = ha;
-            order = order;
-            inside = omega (arith, inside, long);
+            order = ok .order;
+            inside = omega (arith, long);
             b-is = refl;
             kept-is = refl;
             i-is = e;
@@ -217,7 +245,7 @@ module _ (n m k : ℕ) (text lines tokens : List ℕ) (a b : ℕ) (w : List ℕ)
       let v = fresh-inverse t (pageRecords pg) h in
       let bh = behind t (pageRecords pg) (v .2) in
       let s = fresh-small t (pageRecords pg) (short-text t (v .0)) (v .2) in
-      let at : countLF (take a text) ≡ countLF (take a t) = ap countLF (sym (take-take a n text (omega (arith, order, inside)))) in
+      let at : countLF (take a text) ≡ countLF (take a t) = ap countLF (sym (take-take a n text (omega (arith, ok .order, ok .inside)))) in
       let b = begin-at text lines m k a (omega (arith, s .n-le, s .m-le)) (omega (arith, s .n-le, s .k-le)) (countLF (take a text)) refl
       (omega (arith, at, i-le bh)) (usable-of bh (countLF (take a text)) at) in
       omega (arith, e, b, at, i-le bh)
@@ -283,7 +311,7 @@ module _ (n m k : ℕ) (text lines tokens : List ℕ) (a b : ℕ) (w : List ℕ)
       few-tokens : tokensAfter p k ≤ 2_097_152
       unfolding recordsOf
       few-tokens =
-          let s = fresh-small u (recordsOf (mends bh .entries) (mends bh .last)) small records-are in
+          let s = fresh-small u (recordsOf (mends bh .entries) (mends bh .last)) (ok .small) records-are in
           omega (arith, tokens-sum, s .k-le, s .n-le)
 
     short-lines : length lines < 21 * linesAfter p m → OnPaper pg ed (short linesBuffer (21 * linesAfter p m))
@@ -319,18 +347,28 @@ module _ (n m k : ℕ) (text lines tokens : List ℕ) (a b : ℕ) (w : List ℕ)
         )
 
   -- The plan after reading again from line i on.
-  module _ (i base : ℕ) (bg : Begun text lines m k a i) (i-m : i ≤ m) (eb : base ≡ lineWord lines i 0) (inside-u : base ≤ length u) where
+  module _ {i : ℕ} (bg : Begun text lines m k a i) where
+    abbrev base : ℕ
+    base = lineWord lines i 0
+
     us : Usable lines i k a
-    us = usable-true lines i k a (bg .usable)
+    us = bg .usable
+
+    pub inside-u : base ≤ length u
+    inside-u = omega (arith, us .start, edited-holds)
 
     at-is : i ≡ countLF (take a t)
-    at-is = bg .i-is ∙ ap countLF (sym (take-take a n text (omega (arith, order, inside))))
+    at-is = bg .i-is ∙ ap countLF (sym (take-take a n text (omega (arith, ok .order, ok .inside))))
 
     abbrev z : State
     z = stateFrom lines i
 
+    -- what reading again gives, on paper
+    abbrev pub Gives : Reread → Type 0
+    Gives = RereadIs (drop base u) lines base i m b (a + length w) z
+
     -- how much was read again
-    pub lines-small : (c x q : ℕ) (l : Lines (drop base u) z c x q) → (c ≤ q) × (x ≤ 16 + 2 * q) × (x + length (l .after .widths) ≤ 16 + 2 * q)
+    lines-small : (c x q : ℕ) (l : Lines (drop base u) z c x q) → (c ≤ q) × (x ≤ 16 + 2 * q) × (x + length (l .after .widths) ≤ 16 + 2 * q)
     lines-small c x q l =
         let rest : List ℕ = drop base u in
         let s = read-sizes maxLevels z (take c (linesOf rest)) (l .es) (l .after) (l .reads-are) in
@@ -345,6 +383,20 @@ module _ (n m k : ℕ) (text lines tokens : List ℕ) (a b : ℕ) (w : List ℕ)
         let v : length (z .widths) ≤ 16 = omega (arith, length-take (lineWord lines i 4) (take 16 (drop (21 * i + 5) lines)), us .levels) in
         (omega (arith, g .lines, l .count), omega (arith, g .tokens, l .tokens), omega (arith, g .tokens, l .tokens))
 
+    -- as the plans need it
+    rest-small : base + length (drop base u) ≤ 1_048_576
+    rest-small = omega (arith, length-drop base u, inside-u, ok .small)
+
+    pub stop-small : {c x q j : ℕ} → Gives (Stops c x q j) → (j ≤ m) × (c ≤ 1_048_576) × (x ≤ 2_500_000) × (base + q ≤ 1_048_576)
+    stop-small {c} {x} {q} r =
+        let v = lines-small c x q (r .0) in
+        (r .1 .1 .0, omega (arith, v .0, r .1 .0, rest-small), omega (arith, v .1, r .1 .0, rest-small), omega (arith, r .1 .0, rest-small))
+
+    pub end-small : {c x g : ℕ} → Gives (Ends c x g) → (c ≤ 1_048_576) × (x + g ≤ 2_500_000)
+    end-small {c} {x} r =
+        let v = lines-small c x (length (drop base u)) (r .0) in
+        (omega (arith, v .0, rest-small), omega (arith, v .2, r .1, rest-small))
+
     stop-planned : (c x q j : ℕ) (l : Lines (drop base u) z c x q) → q < length (drop base u) → j ≤ m → lineWord lines j 1 ≤ k → lineWord lines j 0 ≤ 4_294_967_295
         → Planned u lines m k (stopPlan lines i base c x q j)
     stop-planned c x q j l hq hj hk ho =
@@ -352,30 +404,30 @@ module _ (n m k : ℕ) (text lines tokens : List ℕ) (a b : ℕ) (w : List ℕ)
         record {
           m-le = bg .m-le;
           k-le = bg .k-le;
-          i-le = i-m;
-          number = omega (arith, us .number, eb);
+          i-le = bg .within;
+          number = us .number;
           base-le = inside-u;
-          depth = omega (arith, us .depth, eb);
+          depth = us .depth;
           levels = us .levels;
           reads-as = subst (ReadsAs (stopPlan lines i base c x q j)) (sym (l .reads-are)) (l .count, l .tokens, ap (λ (y : ℕ). base + y) (l .bytes), sym (l .count), sym (l .tokens));
           first-le = us .first;
           from-le = hk;
           j-le = omega (arith, hj);
           old-le = ho;
-          lines-le = omega (arith, v .0, length-drop base u, small);
+          lines-le = omega (arith, v .0, length-drop base u, ok .small);
           some = omega (arith, hj);
         }
 
-    stop-mends : (c x q j : ℕ) (r : RereadIs (drop base u) lines base i m b (a + length w) z (Stops c x q j)) (bh : Behind t (pageRecords pg))
+    stop-mends : (c x q j : ℕ) (r : Gives (Stops c x q j)) (bh : Behind t (pageRecords pg))
         → Mends t lines (bh .entries) (bh .end) ed (stopPlan lines i base c x q j)
     unfolding old-of
     stop-mends c x q j r bh =
-        let o = old-of bh i at-is base eb in
+        let o = old-of bh i at-is in
         let v = r .2 o in
         let es : List Entry = bh .entries in
         let end : State = bh .end in
         let hj : j ≤ length es = omega (arith, v .3) in
-        let ti : take i (withEnd es end) ≡ take i es = take-append-le i es (endEntry end ∷ []) (omega (arith, i-m, m-is bh)) in
+        let ti : take i (withEnd es end) ≡ take i es = take-append-le i es (endEntry end ∷ []) (omega (arith, bg .within, m-is bh)) in
         let tj : take j (withEnd es end) ≡ take j es = take-append-le j es (endEntry end ∷ []) hj in
         let nl : newLines false (plannedLines u lines (stopPlan lines i base c x q j)) ≡ r .0 .es = ap (newLines false) (r .0 .reads-are) in
         record {
@@ -384,16 +436,16 @@ module _ (n m k : ℕ) (text lines tokens : List ℕ) (a b : ℕ) (w : List ℕ)
           reads-are = v .0;
           mended = with-end es (r .0 .es) end i j hj ∙ (λ y. sym ti y ++ (sym nl y ++ drop j (withEnd es end)));
           count = v .1;
-          first-is = first-of bh i i-m ∙ ap tokenSum (sym ti);
+          first-is = first-of bh i (bg .within) ∙ ap tokenSum (sym ti);
           from-is = first-of bh j (omega (arith, hj, m-is bh)) ∙ ap tokenSum (sym tj);
-          base-is = eb ∙ start-of bh i i-m ∙ ap byteSum (sym ti);
+          base-is = start-of bh i (bg .within) ∙ ap byteSum (sym ti);
           old-is = start-of bh j (omega (arith, hj, m-is bh)) ∙ ap byteSum (sym tj);
           new-is = ap (λ (y : ℕ). base + y) (sym (r .0 .bytes) ∙ ap byteSum (sym nl));
         }
 
-    pub stop-plan : (c x q j : ℕ) → RereadIs (drop base u) lines base i m b (a + length w) z (Stops c x q j) → lineWord lines j 0 ≤ 4_294_967_295
+    pub stop-plan : {c x q j : ℕ} → Gives (Stops c x q j) → lineWord lines j 0 ≤ 4_294_967_295
         → PlanIs pg ed (stopAnswer lines i base m k c x q j (length tokens))
-    stop-plan c x q j r ho = go (ltb k (lineWord lines j 1)) refl
+    stop-plan {c} {x} {q} {j} r ho = go (ltb k (lineWord lines j 1)) refl
       where
         go : (y : Bool) → ltb k (lineWord lines j 1) ≡ y → PlanIs pg ed (if y then Unfit else roomed (stopPlan lines i base c x q j) m k (length lines) (length tokens))
         go true e = λ spare fa.
@@ -413,29 +465,29 @@ module _ (n m k : ℕ) (text lines tokens : List ℕ) (a b : ℕ) (w : List ℕ)
         record {
           m-le = bg .m-le;
           k-le = bg .k-le;
-          i-le = i-m;
-          number = omega (arith, us .number, eb);
+          i-le = bg .within;
+          number = us .number;
           base-le = inside-u;
-          depth = omega (arith, us .depth, eb);
+          depth = us .depth;
           levels = us .levels;
           reads-as = subst (ReadsAs (endPlan lines i base m k n (length u) c x g)) (sym (l .reads-are)) (l .count, l .tokens, omega (arith, l .bytes, length-drop base u, inside-u), sym e, sym s);
           first-le = us .first;
           from-le = omega arith;
           j-le = omega arith;
           old-le = hn;
-          lines-le = omega (arith, v .0, length-drop base u, small);
+          lines-le = omega (arith, v .0, length-drop base u, ok .small);
           some = omega arith;
         }
 
-    end-mends : (c x g : ℕ) (r : RereadIs (drop base u) lines base i m b (a + length w) z (Ends c x g)) (bh : Behind t (pageRecords pg))
+    end-mends : (c x g : ℕ) (r : Gives (Ends c x g)) (bh : Behind t (pageRecords pg))
         → Mends t lines (bh .entries) (bh .end) ed (endPlan lines i base m k n (length u) c x g)
     unfolding old-of
     end-mends c x g r bh =
-        let o = old-of bh i at-is base eb in
+        let o = old-of bh i at-is in
         let v = r .2 o in
         let es : List Entry = bh .entries in
         let end : State = bh .end in
-        let ti : take i (withEnd es end) ≡ take i es = take-append-le i es (endEntry end ∷ []) (omega (arith, i-m, m-is bh)) in
+        let ti : take i (withEnd es end) ≡ take i es = take-append-le i es (endEntry end ∷ []) (omega (arith, bg .within, m-is bh)) in
         let le : length (withEnd es end) ≤ m + 1 = omega (arith, length-end es end, m-is bh) in
         let tj : take (m + 1) (withEnd es end) ≡ withEnd es end = take-all (m + 1) (withEnd es end) le in
         let dj : drop (m + 1) (withEnd es end) ≡ [] = drop-of-length-le (withEnd es end) {i = m + 1} le in
@@ -447,42 +499,36 @@ module _ (n m k : ℕ) (text lines tokens : List ℕ) (a b : ℕ) (w : List ℕ)
           mended = append-assoc (take i es) (r .0 .es) (endEntry (r .0 .after) ∷ []) ∙ ap (λ (y : List Entry). take i es ++ y) (sym (append-nil (withEnd (r .0 .es) (r .0 .after))))
               ∙ (λ y. sym ti y ++ (sym nl y ++ sym dj y));
           count = v .1;
-          first-is = first-of bh i i-m ∙ ap tokenSum (sym ti);
+          first-is = first-of bh i (bg .within) ∙ ap tokenSum (sym ti);
           from-is = k-is bh ∙ ap tokenSum (sym tj);
-          base-is = eb ∙ start-of bh i i-m ∙ ap byteSum (sym ti);
+          base-is = start-of bh i (bg .within) ∙ ap byteSum (sym ti);
           old-is = n-is bh ∙ sym (sum-end es end) ∙ ap byteSum (sym tj);
           new-is = omega (arith, length-drop base u, inside-u, r .0 .bytes, sum-end (r .0 .es) (r .0 .after), ap byteSum nl);
         }
 
-    pub end-plan : (c x g : ℕ) → RereadIs (drop base u) lines base i m b (a + length w) z (Ends c x g) → n ≤ 4_294_967_295
+    pub end-plan : {c x g : ℕ} → Gives (Ends c x g) → n ≤ 4_294_967_295
         → PlanIs pg ed (roomed (endPlan lines i base m k n (length u) c x g) m k (length lines) (length tokens))
-    end-plan c x g r hn =
+    end-plan {c} {x} {g} r hn =
         roomed-is (endPlan lines i base m k n (length u) c x g) (end-planned c x g (r .0) (r .1) hn) (end-mends c x g r)
 
     -- the same, as the code has the rest of the text and the state
-    pub reread-as : (rest : List ℕ) (y : State) (r : Reread) → rest ≡ drop base u → y ≡ z → RereadIs rest lines base i m b (a + length w) y r
-        → RereadIs (drop base u) lines base i m b (a + length w) z r
-    reread-as rest y r er ey h =
-        subst (λ (s : State). RereadIs (drop base u) lines base i m b (a + length w) s r) ey (subst (λ (l : List ℕ). RereadIs l lines base i m b (a + length w) y r) er h)
+    pub gives : {rest : List ℕ} {y : State} {r q : Reread} → rest ≡ drop base u → y ≡ z → r ≡ q → RereadIs rest lines base i m b (a + length w) y r → Gives q
+    gives er ey e h = rw (er, ey, e) at h
 
     halted : (h : Halt) (es : List Entry) → readFrom maxLevels initial (linesOf u) ≡ halts es h → readLines barge u ≡ unread (haltRefusal barge (byteSum es) (suc (length es)) h)
     unfolding readLines recordedBy
     halted h es e = ap (recordedBy barge) e
 
-    pub fail-plan : (r : FailureRecord) → RereadIs (drop base u) lines base i m b (a + length w) z (Fails r) → OnPaper pg ed (reading (lexical (recordOut r)))
+    pub fail-plan : {r : FailureRecord} → Gives (Fails r) → OnPaper pg ed (reading (lexical (recordOut r)))
     unfolding old-of stored haltRefusal
-    fail-plan r h spare fa =
-        let v = h (old-of (faithful-behind fa) i at-is base eb) in
+    fail-plan h spare fa =
+        let v = h (old-of (faithful-behind fa) i at-is) in
         ap (stored (record { text = length text; spare = spare; lines = length lines; tokens = length tokens }) (rereadCount t ed)) (halted (failed (v .1)) (v .0) (v .2))
         ∙ ap (λ (y : FailureRecord). late (reading (lexical (recordOut y)))) (sym (v .3))
 
-    pub deep-plan : (l : ℕ) → RereadIs (drop base u) lines base i m b (a + length w) z (TooDeep l) → OnPaper pg ed (reading (atLine 4 l))
+    pub deep-plan : {l : ℕ} → Gives (TooDeep l) → OnPaper pg ed (reading (atLine 4 l))
     unfolding old-of stored haltRefusal
-    deep-plan l h spare fa =
-        let v = h (old-of (faithful-behind fa) i at-is base eb) in
+    deep-plan h spare fa =
+        let v = h (old-of (faithful-behind fa) i at-is) in
         ap (stored (record { text = length text; spare = spare; lines = length lines; tokens = length tokens }) (rereadCount t ed)) (halted overLimit (v .0) (v .1))
         ∙ ap (λ (y : ℕ). late (reading (atLine 4 y))) (sym (v .2))
-
-  -- the edited text holds its first a bytes and w
-  pub edited-holds : a + length w ≤ length u
-  edited-holds = omega (arith, length-edited t ed (omega (arith, long, order, inside)))

@@ -1,38 +1,50 @@
 -- `planning::plan_edit` meets its contract.
 -- Assumes nothing.
-use Prim.Native.Nat.{ℕ, _+_, _-_, _*_, _≤_, _<_}
-use mathlib.Core.Path.{_≡_, refl, sym, ap, subst, _∙_}
+use Prim.Native.Nat.{ℕ, _+_, _-_, _*_, _≤_}
+use mathlib.Core.Path.{_≡_, refl, ap, subst, _∙_}
 use mathlib.Core.List.{List}
 use native.Mathlib.Omega.{arith}
-use lib.ListN.{length, take, drop, length-drop, length-take}
+use lib.ListN.{length, drop, length-drop, length-take}
 use lib.Seq.{take-all}
 use Rattle.rules.specs.Line.{State}
-use Rattle.rules.specs.StopRule.{edited}
-use Rattle.rules.proofs.PageLaws.{Fits, fits-true}
-use Rattle.line.specs.States.{stateOf}
-use Rattle.rereading.specs.Rereads.{RereadIs}
+use Rattle.rules.specs.Page.{Page}
+use Rattle.rules.specs.StopRule.{Edit}
+use Rattle.rules.proofs.PageLaws.{fits-true}
+use Rattle.rereading.specs.declared.Reread.{Reread}
 use Rattle.header.specs.Pages.{page}
-use Rattle.planning.specs.Starts.{lineWord, stateFrom}
-use Rattle.planning.specs.Plans.{editOf, roomed, endPlan, PlanIs}
-use Rattle.planning.proofs.Starts.{Usable, usable-true}
+use Rattle.planning.specs.Starts.{lineWord}
+use Rattle.planning.specs.Plans.{editOf}
 use Rattle.planning.proofs.Begins.{Begun, begun}
-use Rattle.planning.proofs.Plans.{edited-holds, begins-within, stop-plan, end-plan, fail-plan, deep-plan, reread-as, lines-small}
+use Rattle.planning.proofs.Plans.{Editable, begins-within, inside-u, edited-holds, Gives, gives, stop-small, stop-plan, end-small, end-plan, fail-plan, deep-plan}
 use borrow.Author.Needs.{needs}
 use Rattle.planning.proofs.plan_edit.Statement.{statement}
 use Rattle.planning.proofs.plan_edit.Tie as tie
 
+-- The page and the edit.
+
+abbrev page-at : tie.Start → Page
+page-at s = page (s .args .n) (s .args .m) (s .args .k) (s .args .text .now) (s .args .lines .now) (s .args .tokens .now)
+
+abbrev edit-at : tie.Start → Edit
+edit-at s = editOf (s .args .a) (s .args .b) (s .args .w .now)
+
+editable : (s : tie.Start) → Editable (page-at s) (edit-at s)
+editable s =
+    record {
+      fits = fits-true (page-at s) (s .pre .0);
+      order = s .pre .1 .0 .0;
+      inside = s .pre .1 .0 .1 .0;
+      small = subst (λ (x : List ℕ). length x ≤ 1_048_576) (s .pre .1 .1) (s .pre .1 .0 .1 .1);
+    }
+
 begin-line-requires : tie.Need-begin-line-requires
 begin-line-requires c κs =
-    let a = c .before .before .before .before .before .args in
-    let p = c .before .before .before .before .before .pre in
-    let F = fits-true (page (a .n) (a .m) (a .k) (a .text .now) (a .lines .now) (a .tokens .now)) (p .0) in
-    (omega (arith, F .text, p .1 .0 .0, p .1 .0 .1 .0), (omega (arith, c .before .before .before .before .before .fits), F .lines))
+    let s = c .before .before .before .before .before in
+    let ok = editable s in
+    (omega (arith, ok .fits .text, ok .order, ok .inside), (omega (arith, s .fits), ok .fits .lines))
 
 returns : tie.Need-returns
-returns c =
-    let a = c .before .before .before .before .before .before .before .args in
-    let p = c .before .before .before .before .before .before .before .pre in
-    λ spare fa. absurd (begins-within (a .n) (a .m) (a .k) (a .text .now) (a .lines .now) (a .tokens .now) (a .a) (a .b) (a .w .now) (fits-true (page (a .n) (a .m) (a .k) (a .text .now) (a .lines .now) (a .tokens .now)) (p .0)) (p .1 .0 .0) (p .1 .0 .1 .0) (subst (λ (x : List ℕ). length x ≤ 1_048_576) (p .1 .1) (p .1 .0 .1 .1)) fa _ (c .before .begin-line .ensures) (c .if1 .taken))
+returns c = λ spare fa. absurd (begins-within (editable (c .before .before .before .before .before .before .before)) fa _ (c .before .begin-line .ensures) (c .if1 .taken))
 
 class-table-requires : tie.Need-class-table-requires
 class-table-requires c κs = search needs
@@ -52,15 +64,28 @@ keyword-table-requires c κs = search needs
 slice-aggregate-load-state : tie.Need-slice-aggregate-load-state
 slice-aggregate-load-state c = search needs
 
+-- Where reading again begins: at the line that `begin_line` found, within the page.
+
+abbrev start : tie.Else1 → tie.Start
+start c = c .before .before .before .before .before .before .before
+
+abbrev branch : tie.After-load-state → tie.Else1
+branch c = c .before .before .before .before .before .before .before
+
+abbrev line-at : tie.Else1 → ℕ
+line-at c = c .before .begin-line .result
+
+begun-at : (c : tie.Else1) → let a = start c .args in Begun (a .text .now) (a .lines .now) (a .m) (a .k) (a .a) (line-at c)
+begun-at c = let a = start c .args in begun (a .text .now) (a .lines .now) (a .m) (a .k) (a .a) _ (c .before .begin-line .ensures) (c .if1 .left)
+
+base-inside : (c : tie.Else1) → lineWord (start c .args .lines .now) (line-at c) 0 ≤ length (start c .args .edited .now)
+base-inside c = omega (arith, inside-u (editable (start c)) (begun-at c), ap length (start c .pre .1 .1))
+
 load-state-requires : tie.Need-load-state-requires
 load-state-requires c κs =
-    let a = c .before .before .before .before .before .before .before .before .before .before .before .before .before .args in
-    let begin-line = c .before .before .before .before .before .before .before .begin-line in
-    let if1 = c .before .before .before .before .before .before .if1 in
-    let F = fits-true (page (a .n) (a .m) (a .k) (a .text .now) (a .lines .now) (a .tokens .now)) (c .before .before .before .before .before .before .before .before .before .before .before .before .before .pre .0) in
-    let g = begun (a .text .now) (a .lines .now) (a .m) (a .k) (a .a) _ (begin-line .ensures) (if1 .left) in
-    let U = usable-true (a .lines .now) (begin-line .result) (a .k) (a .a) (g .usable) in
-    ((omega (arith, if1 .left, g .m-le), (omega (arith, if1 .left, F .lines), refl)), U .levels)
+    let b = c .before .before .before .before .before .before in
+    let g = begun-at b in
+    ((omega (arith, g .within, g .m-le), (omega (arith, g .within, editable (start b) .fits .lines), refl)), g .usable .levels)
 
 mul-base : tie.Need-mul-base
 mul-base c = search needs
@@ -73,73 +98,54 @@ mul-base-2 c = search needs
 
 shared-slice-read-base : tie.Need-shared-slice-read-base
 shared-slice-read-base c =
-    let a = c .before .before .before .before .before .before .before .before .before .before .before .before .before .before .before .before .args in
-    let F = fits-true (page (a .n) (a .m) (a .k) (a .text .now) (a .lines .now) (a .tokens .now)) (c .before .before .before .before .before .before .before .before .before .before .before .before .before .before .before .before .pre .0) in
-    omega (arith, c .before .before .before .before .before .before .before .before .before .if1 .left, F .lines)
+    let b = branch (c .before .before) in
+    omega (arith, b .if1 .left, editable (start b) .fits .lines)
 
 cast-base : tie.Need-cast-base
-cast-base c = omega (arith, c .shared-slice-known6 .given (21 * c .before .before .before .before .before .before .before .before .before .before .begin-line .result + 0))
+cast-base c = omega (arith, c .shared-slice-known6 .given (21 * line-at (branch (c .before .before)) + 0))
 
 sub-reread-lines : tie.Need-sub-reread-lines
-sub-reread-lines c =
-    let a = c .before .before .before .before .before .before .before .before .before .before .before .before .before .before .before .before .before .before .before .before .before .args in
-    let begin-line = c .before .before .before .before .before .before .before .before .before .before .before .before .before .before .before .begin-line in
-    let p = c .before .before .before .before .before .before .before .before .before .before .before .before .before .before .before .before .before .before .before .before .before .pre in
-    let F = fits-true (page (a .n) (a .m) (a .k) (a .text .now) (a .lines .now) (a .tokens .now)) (p .0) in
-    let g = begun (a .text .now) (a .lines .now) (a .m) (a .k) (a .a) _ (begin-line .ensures) (c .before .before .before .before .before .before .before .before .before .before .before .before .before .before .if1 .left) in
-    let U = usable-true (a .lines .now) (begin-line .result) (a .k) (a .a) (g .usable) in
-    let base = lineWord (a .lines .now) (begin-line .result) 0 in
-    omega (arith, U .start, edited-holds (a .n) (a .m) (a .k) (a .text .now) (a .lines .now) (a .tokens .now) (a .a) (a .b) (a .w .now) (fits-true (page (a .n) (a .m) (a .k) (a .text .now) (a .lines .now) (a .tokens .now)) (p .0)) (p .1 .0 .0) (p .1 .0 .1 .0) (subst (λ (x : List ℕ). length x ≤ 1_048_576) (p .1 .1) (p .1 .0 .1 .1)), ap length (p .1 .1))
+sub-reread-lines c = base-inside (branch (c .before .before .before .before .before .before .before))
 
 part-reread-lines-start : tie.Need-part-reread-lines-start
-part-reread-lines-start c =
-    let a = c .before .before .before .before .before .before .before .before .before .before .before .before .before .before .before .before .before .before .before .before .before .args in
-    let begin-line = c .before .before .before .before .before .before .before .before .before .before .before .before .before .before .before .begin-line in
-    let p = c .before .before .before .before .before .before .before .before .before .before .before .before .before .before .before .before .before .before .before .before .before .pre in
-    let F = fits-true (page (a .n) (a .m) (a .k) (a .text .now) (a .lines .now) (a .tokens .now)) (p .0) in
-    let g = begun (a .text .now) (a .lines .now) (a .m) (a .k) (a .a) _ (begin-line .ensures) (c .before .before .before .before .before .before .before .before .before .before .before .before .before .before .if1 .left) in
-    let U = usable-true (a .lines .now) (begin-line .result) (a .k) (a .a) (g .usable) in
-    let base = lineWord (a .lines .now) (begin-line .result) 0 in
-    omega (arith, U .start, edited-holds (a .n) (a .m) (a .k) (a .text .now) (a .lines .now) (a .tokens .now) (a .a) (a .b) (a .w .now) (fits-true (page (a .n) (a .m) (a .k) (a .text .now) (a .lines .now) (a .tokens .now)) (p .0)) (p .1 .0 .0) (p .1 .0 .1 .0) (subst (λ (x : List ℕ). length x ≤ 1_048_576) (p .1 .1) (p .1 .0 .1 .1)), ap length (p .1 .1))
+part-reread-lines-start c = base-inside (branch (c .before .before .before .before .before .before .before))
 
 part-reread-lines-end : tie.Need-part-reread-lines-end
 part-reread-lines-end c = search needs
 
 add-reread-lines : tie.Need-add-reread-lines
 add-reread-lines c =
-    let a = c .before .before .before .before .before .before .before .before .before .before .before .before .before .before .before .before .before .before .before .before .before .before .args in
-    let p = c .before .before .before .before .before .before .before .before .before .before .before .before .before .before .before .before .before .before .before .before .before .before .pre in
-    omega (arith, edited-holds (a .n) (a .m) (a .k) (a .text .now) (a .lines .now) (a .tokens .now) (a .a) (a .b) (a .w .now) (fits-true (page (a .n) (a .m) (a .k) (a .text .now) (a .lines .now) (a .tokens .now)) (p .0)) (p .1 .0 .0) (p .1 .0 .1 .0) (subst (λ (x : List ℕ). length x ≤ 1_048_576) (p .1 .1) (p .1 .0 .1 .1)), ap length (p .1 .1), p .1 .0 .1 .1)
+    let s = start (branch (c .before .before .before .before .before .before .before .before)) in
+    omega (arith, edited-holds (editable s), editable s .small)
 
 slice-aggregate-reread-lines : tie.Need-slice-aggregate-reread-lines
 slice-aggregate-reread-lines c = search needs
 
 reread-lines-requires : tie.Need-reread-lines-requires
 reread-lines-requires c κs =
-    let a = c .before .before .before .before .before .before .before .before .before .before .before .before .before .before .before .before .before .before .before .before .before .before .before .args in
-    let begin-line = c .before .before .before .before .before .before .before .before .before .before .before .before .before .before .before .before .before .begin-line in
-    let fits = c .before .before .before .before .before .before .before .before .before .before .before .before .before .before .before .before .before .before .before .before .before .before .before .fits in
-    let if1 = c .before .before .before .before .before .before .before .before .before .before .before .before .before .before .before .before .if1 in
-    let load-state = c .before .before .before .before .before .before .before .before .before .load-state in
-    let p = c .before .before .before .before .before .before .before .before .before .before .before .before .before .before .before .before .before .before .before .before .before .before .before .pre in
-    let F = fits-true (page (a .n) (a .m) (a .k) (a .text .now) (a .lines .now) (a .tokens .now)) (p .0) in
-    let g = begun (a .text .now) (a .lines .now) (a .m) (a .k) (a .a) _ (begin-line .ensures) (if1 .left) in
-    let U = usable-true (a .lines .now) (begin-line .result) (a .k) (a .a) (g .usable) in
-    let base = lineWord (a .lines .now) (begin-line .result) 0 in
-    let E = a .edited .now in
-    let d : load-state .result .depth ≡ lineWord (a .lines .now) (begin-line .result) 2 = ap (λ (y : State). y .depth) (load-state .ensures .0) in (
-      c .before .before .before .before .before .before .before .before .before .before .before .before .before .before .before .class-table .ensures,
+    let l = c .before .before .before .before .before .before .before .before .before in
+    let t = l .before .before in
+    let b = branch l in
+    let s = start b in
+    let g = begun-at b in
+    let E = s .args .edited .now in
+    let base = lineWord (s .args .lines .now) (line-at b) 0 in
+    let d : l .load-state .result .depth ≡ lineWord (s .args .lines .now) (line-at b) 2 = ap (λ (y : State). y .depth) (l .load-state .ensures .0) in (
+      t .before .before .before .before .class-table .ensures,
       (
-        c .before .before .before .before .before .before .before .before .before .before .before .before .before .before .reach-table .ensures,
+        t .before .before .before .reach-table .ensures,
         (
-          c .before .before .before .before .before .before .before .before .before .before .before .before .before .sign-index .ensures,
+          t .before .before .sign-index .ensures,
           (
-            c .before .before .before .before .before .before .before .before .before .before .before .before .sign-table .ensures,
+            t .before .sign-table .ensures,
             (
-              c .before .before .before .before .before .before .before .before .before .before .before .keyword-table .ensures,
+              t .keyword-table .ensures,
               (
-                (omega (arith, length-take (length E - base) (drop base E), length-drop base E, p .1 .0 .1 .1, U .start, edited-holds (a .n) (a .m) (a .k) (a .text .now) (a .lines .now) (a .tokens .now) (a .a) (a .b) (a .w .now) (fits-true (page (a .n) (a .m) (a .k) (a .text .now) (a .lines .now) (a .tokens .now)) (p .0)) (p .1 .0 .0) (p .1 .0 .1 .0) (subst (λ (x : List ℕ). length x ≤ 1_048_576) (p .1 .1) (p .1 .0 .1 .1)), ap length (p .1 .1)), (U .number, (if1 .left, omega (arith, p .1 .0 .1 .0, fits)))),
-                ((omega (arith, fits), F .lines), (omega (arith, d, U .depth), (load-state .ensures .1, load-state .kept .1 .1 .0))),
+                (
+                  omega (arith, length-take (length E - base) (drop base E), length-drop base E, s .pre .1 .0 .1 .1, base-inside b),
+                  (g .usable .number, (g .within, omega (arith, s .pre .1 .0 .1 .0, s .fits))),
+                ),
+                ((omega (arith, s .fits), editable s .fits .lines), (omega (arith, d, g .usable .depth), (l .load-state .ensures .1, l .load-state .kept .1 .1 .0))),
               ),
             ),
           ),
@@ -147,51 +153,47 @@ reread-lines-requires c κs =
       ),
     )
 
+-- After reading again: where it began, and what it gave, of the edited text on paper.
+
+abbrev loaded : tie.After-reread-lines → tie.After-load-state
+loaded c = c .before .before .before .before .before .before .before .before .before .before
+
+abbrev start-of : tie.After-reread-lines → tie.Start
+start-of c = start (branch (loaded c))
+
+abbrev ok : (c : tie.After-reread-lines) → Editable (page-at (start-of c)) (edit-at (start-of c))
+ok c = editable (start-of c)
+
+abbrev begun-of : (c : tie.After-reread-lines) → let a = start-of c .args in Begun (a .text .now) (a .lines .now) (a .m) (a .k) (a .a) (line-at (branch (loaded c)))
+begun-of c = begun-at (branch (loaded c))
+
+given : (c : tie.After-reread-lines) {r : Reread} → c .reread-lines .result ≡ r → Gives (ok c) (begun-of c) r
+given c e =
+    let s = start-of c in
+    let E = s .args .edited .now in
+    let base = lineWord (s .args .lines .now) (line-at (branch (loaded c))) 0 in
+    let rest = take-all (length E - base) (drop base E) (omega (arith, length-drop base E)) ∙ ap (drop base) (s .pre .1 .1) in
+    gives (ok c) (begun-of c) rest (loaded c .load-state .ensures .0) e (c .reread-lines .ensures)
+
 enum-known-c : tie.Need-enum-known-c
 enum-known-c c = search needs
 
 plan-stop-requires : tie.Need-plan-stop-requires
 plan-stop-requires c κs =
-    let a = c .before .before .before .before .before .before .before .before .before .before .before .before .before .before .before .before .before .before .before .before .before .before .before .before .before .before .before .before .args in
-    let begin-line = c .before .before .before .before .before .before .before .before .before .before .before .before .before .before .before .before .before .before .before .before .before .before .begin-line in
-    let if1 = c .before .before .before .before .before .before .before .before .before .before .before .before .before .before .before .before .before .before .before .before .before .if1 in
-    let p = c .before .before .before .before .before .before .before .before .before .before .before .before .before .before .before .before .before .before .before .before .before .before .before .before .before .before .before .before .pre in
-    let reread-lines = c .before .before .before .before .reread-lines in
-    let F = fits-true (page (a .n) (a .m) (a .k) (a .text .now) (a .lines .now) (a .tokens .now)) (p .0) in
-    let g = begun (a .text .now) (a .lines .now) (a .m) (a .k) (a .a) _ (begin-line .ensures) (if1 .left) in
-    let U = usable-true (a .lines .now) (begin-line .result) (a .k) (a .a) (g .usable) in
-    let base = lineWord (a .lines .now) (begin-line .result) 0 in
-    let u = edited (take (a .n) (a .text .now)) (editOf (a .a) (a .b) (a .w .now)) in
-    let E = a .edited .now in
-    let er : take (length E - base) (drop base E) ≡ drop base u = take-all (length E - base) (drop base E) (omega (arith, length-drop base E)) ∙ ap (drop base) (p .1 .1) in
-    let lu : base + length (drop base u) ≤ 1_048_576 = omega (arith, length-drop base u, ap length (p .1 .1), p .1 .0 .1 .1, U .start, edited-holds (a .n) (a .m) (a .k) (a .text .now) (a .lines .now) (a .tokens .now) (a .a) (a .b) (a .w .now) (fits-true (page (a .n) (a .m) (a .k) (a .text .now) (a .lines .now) (a .tokens .now)) (p .0)) (p .1 .0 .0) (p .1 .0 .1 .0) (subst (λ (x : List ℕ). length x ≤ 1_048_576) (p .1 .1) (p .1 .0 .1 .1))) in
-    let x = reread-as (a .n) (a .m) (a .k) (a .text .now) (a .lines .now) (a .tokens .now) (a .a) (a .b) (a .w .now) (fits-true (page (a .n) (a .m) (a .k) (a .text .now) (a .lines .now) (a .tokens .now)) (p .0)) (p .1 .0 .0) (p .1 .0 .1 .0) (subst (λ (x : List ℕ). length x ≤ 1_048_576) (p .1 .1) (p .1 .0 .1 .1)) (begin-line .result) base g (if1 .left) refl (omega (arith, U .start, edited-holds (a .n) (a .m) (a .k) (a .text .now) (a .lines .now) (a .tokens .now) (a .a) (a .b) (a .w .now) (fits-true (page (a .n) (a .m) (a .k) (a .text .now) (a .lines .now) (a .tokens .now)) (p .0)) (p .1 .0 .0) (p .1 .0 .1 .0) (subst (λ (x : List ℕ). length x ≤ 1_048_576) (p .1 .1) (p .1 .0 .1 .1)))) (take (length E - base) (drop base E)) _ (reread-lines .result) er (c .before .before .before .before .before .before .before .before .before .before .before .before .before .before .load-state .ensures .0) (reread-lines .ensures) in
-    let r = subst (RereadIs (drop base u) (a .lines .now) base (begin-line .result) (a .m) (a .b) (a .a + length (a .w .now)) (stateFrom (a .lines .now) (begin-line .result))) (c .before .c .given .1) x in
-    let s = lines-small (a .n) (a .m) (a .k) (a .text .now) (a .lines .now) (a .tokens .now) (a .a) (a .b) (a .w .now) (fits-true (page (a .n) (a .m) (a .k) (a .text .now) (a .lines .now) (a .tokens .now)) (p .0)) (p .1 .0 .0) (p .1 .0 .1 .0) (subst (λ (x : List ℕ). length x ≤ 1_048_576) (p .1 .1) (p .1 .0 .1 .1)) (begin-line .result) base g (if1 .left) refl (omega (arith, U .start, edited-holds (a .n) (a .m) (a .k) (a .text .now) (a .lines .now) (a .tokens .now) (a .a) (a .b) (a .w .now) (fits-true (page (a .n) (a .m) (a .k) (a .text .now) (a .lines .now) (a .tokens .now)) (p .0)) (p .1 .0 .0) (p .1 .0 .1 .0) (subst (λ (x : List ℕ). length x ≤ 1_048_576) (p .1 .1) (p .1 .0 .1 .1)))) _ _ _ (r .0) in
-    ((if1 .left, (r .1 .1 .0, (g .m-le, F .lines))), (U .first, (g .k-le, (omega (arith, s .0, r .1 .0, lu), (omega (arith, s .1, r .1 .0, lu), omega (arith, r .1 .0, lu))))))
+    let x = c .before .before .before .before in
+    let g = begun-of x in
+    let v = stop-small (ok x) g (given x (c .before .c .given .1)) in
+    ((g .within, (v .0, (g .m-le, ok x .fits .lines))), (g .usable .first, (g .k-le, (v .1, (v .2, v .3)))))
 
 enum-known-c-2 : tie.Need-enum-known-c-2
 enum-known-c-2 c = search needs
 
 plan-end-requires : tie.Need-plan-end-requires
 plan-end-requires c κs =
-    let a = c .before .before .before .before .before .before .before .before .before .before .before .before .before .before .before .before .before .before .before .before .before .before .before .before .before .before .before .before .args in
-    let begin-line = c .before .before .before .before .before .before .before .before .before .before .before .before .before .before .before .before .before .before .before .before .before .before .begin-line in
-    let if1 = c .before .before .before .before .before .before .before .before .before .before .before .before .before .before .before .before .before .before .before .before .before .if1 in
-    let p = c .before .before .before .before .before .before .before .before .before .before .before .before .before .before .before .before .before .before .before .before .before .before .before .before .before .before .before .before .pre in
-    let reread-lines = c .before .before .before .before .reread-lines in
-    let F = fits-true (page (a .n) (a .m) (a .k) (a .text .now) (a .lines .now) (a .tokens .now)) (p .0) in
-    let g = begun (a .text .now) (a .lines .now) (a .m) (a .k) (a .a) _ (begin-line .ensures) (if1 .left) in
-    let U = usable-true (a .lines .now) (begin-line .result) (a .k) (a .a) (g .usable) in
-    let base = lineWord (a .lines .now) (begin-line .result) 0 in
-    let u = edited (take (a .n) (a .text .now)) (editOf (a .a) (a .b) (a .w .now)) in
-    let E = a .edited .now in
-    let er : take (length E - base) (drop base E) ≡ drop base u = take-all (length E - base) (drop base E) (omega (arith, length-drop base E)) ∙ ap (drop base) (p .1 .1) in
-    let lu : base + length (drop base u) ≤ 1_048_576 = omega (arith, length-drop base u, ap length (p .1 .1), p .1 .0 .1 .1, U .start, edited-holds (a .n) (a .m) (a .k) (a .text .now) (a .lines .now) (a .tokens .now) (a .a) (a .b) (a .w .now) (fits-true (page (a .n) (a .m) (a .k) (a .text .now) (a .lines .now) (a .tokens .now)) (p .0)) (p .1 .0 .0) (p .1 .0 .1 .0) (subst (λ (x : List ℕ). length x ≤ 1_048_576) (p .1 .1) (p .1 .0 .1 .1))) in
-    let x = reread-as (a .n) (a .m) (a .k) (a .text .now) (a .lines .now) (a .tokens .now) (a .a) (a .b) (a .w .now) (fits-true (page (a .n) (a .m) (a .k) (a .text .now) (a .lines .now) (a .tokens .now)) (p .0)) (p .1 .0 .0) (p .1 .0 .1 .0) (subst (λ (x : List ℕ). length x ≤ 1_048_576) (p .1 .1) (p .1 .0 .1 .1)) (begin-line .result) base g (if1 .left) refl (omega (arith, U .start, edited-holds (a .n) (a .m) (a .k) (a .text .now) (a .lines .now) (a .tokens .now) (a .a) (a .b) (a .w .now) (fits-true (page (a .n) (a .m) (a .k) (a .text .now) (a .lines .now) (a .tokens .now)) (p .0)) (p .1 .0 .0) (p .1 .0 .1 .0) (subst (λ (x : List ℕ). length x ≤ 1_048_576) (p .1 .1) (p .1 .0 .1 .1)))) (take (length E - base) (drop base E)) _ (reread-lines .result) er (c .before .before .before .before .before .before .before .before .before .before .before .before .before .before .load-state .ensures .0) (reread-lines .ensures) in
-    let r = subst (RereadIs (drop base u) (a .lines .now) base (begin-line .result) (a .m) (a .b) (a .a + length (a .w .now)) (stateFrom (a .lines .now) (begin-line .result))) (c .before .c2 .given .1) x in
-    let s = lines-small (a .n) (a .m) (a .k) (a .text .now) (a .lines .now) (a .tokens .now) (a .a) (a .b) (a .w .now) (fits-true (page (a .n) (a .m) (a .k) (a .text .now) (a .lines .now) (a .tokens .now)) (p .0)) (p .1 .0 .0) (p .1 .0 .1 .0) (subst (λ (x : List ℕ). length x ≤ 1_048_576) (p .1 .1) (p .1 .0 .1 .1)) (begin-line .result) base g (if1 .left) refl (omega (arith, U .start, edited-holds (a .n) (a .m) (a .k) (a .text .now) (a .lines .now) (a .tokens .now) (a .a) (a .b) (a .w .now) (fits-true (page (a .n) (a .m) (a .k) (a .text .now) (a .lines .now) (a .tokens .now)) (p .0)) (p .1 .0 .0) (p .1 .0 .1 .0) (subst (λ (x : List ℕ). length x ≤ 1_048_576) (p .1 .1) (p .1 .0 .1 .1)))) _ _ _ (r .0) in
-    ((if1 .left, (g .m-le, F .lines)), (U .first, (g .k-le, (omega (arith, s .0, lu), omega (arith, s .1, s .2, r .1, lu)))))
+    let x = c .before .before .before .before in
+    let g = begun-of x in
+    let v = end-small (ok x) g (given x (c .before .c2 .given .1)) in
+    ((g .within, (g .m-le, ok x .fits .lines)), (g .usable .first, (g .k-le, (v .0, v .1))))
 
 enum-known-f : tie.Need-enum-known-f
 enum-known-f c = search needs
@@ -201,81 +203,23 @@ enum-known-number c = search needs
 
 returns-2 : tie.Need-returns-2
 returns-2 c =
-    let a = c .before .before .before .before .before .before .before .before .before .before .before .before .before .before .before .before .before .before .before .before .before .before .before .before .before .before .before .before .before .args in
-    let begin-line = c .before .before .before .before .before .before .before .before .before .before .before .before .before .before .before .before .before .before .before .before .before .before .before .begin-line in
-    let c′ = c .before .before .c in
-    let if1 = c .before .before .before .before .before .before .before .before .before .before .before .before .before .before .before .before .before .before .before .before .before .before .if1 in
-    let p = c .before .before .before .before .before .before .before .before .before .before .before .before .before .before .before .before .before .before .before .before .before .before .before .before .before .before .before .before .before .pre in
-    let reread-lines = c .before .before .before .before .before .reread-lines in
-    let F = fits-true (page (a .n) (a .m) (a .k) (a .text .now) (a .lines .now) (a .tokens .now)) (p .0) in
-    let g = begun (a .text .now) (a .lines .now) (a .m) (a .k) (a .a) _ (begin-line .ensures) (if1 .left) in
-    let U = usable-true (a .lines .now) (begin-line .result) (a .k) (a .a) (g .usable) in
-    let base = lineWord (a .lines .now) (begin-line .result) 0 in
-    let u = edited (take (a .n) (a .text .now)) (editOf (a .a) (a .b) (a .w .now)) in
-    let E = a .edited .now in
-    let er : take (length E - base) (drop base E) ≡ drop base u = take-all (length E - base) (drop base E) (omega (arith, length-drop base E)) ∙ ap (drop base) (p .1 .1) in
-    let lu : base + length (drop base u) ≤ 1_048_576 = omega (arith, length-drop base u, ap length (p .1 .1), p .1 .0 .1 .1, U .start, edited-holds (a .n) (a .m) (a .k) (a .text .now) (a .lines .now) (a .tokens .now) (a .a) (a .b) (a .w .now) (fits-true (page (a .n) (a .m) (a .k) (a .text .now) (a .lines .now) (a .tokens .now)) (p .0)) (p .1 .0 .0) (p .1 .0 .1 .0) (subst (λ (x : List ℕ). length x ≤ 1_048_576) (p .1 .1) (p .1 .0 .1 .1))) in
-    let x = reread-as (a .n) (a .m) (a .k) (a .text .now) (a .lines .now) (a .tokens .now) (a .a) (a .b) (a .w .now) (fits-true (page (a .n) (a .m) (a .k) (a .text .now) (a .lines .now) (a .tokens .now)) (p .0)) (p .1 .0 .0) (p .1 .0 .1 .0) (subst (λ (x : List ℕ). length x ≤ 1_048_576) (p .1 .1) (p .1 .0 .1 .1)) (begin-line .result) base g (if1 .left) refl (omega (arith, U .start, edited-holds (a .n) (a .m) (a .k) (a .text .now) (a .lines .now) (a .tokens .now) (a .a) (a .b) (a .w .now) (fits-true (page (a .n) (a .m) (a .k) (a .text .now) (a .lines .now) (a .tokens .now)) (p .0)) (p .1 .0 .0) (p .1 .0 .1 .0) (subst (λ (x : List ℕ). length x ≤ 1_048_576) (p .1 .1) (p .1 .0 .1 .1)))) (take (length E - base) (drop base E)) _ (reread-lines .result) er (c .before .before .before .before .before .before .before .before .before .before .before .before .before .before .before .load-state .ensures .0) (reread-lines .ensures) in
-    let r = subst (RereadIs (drop base u) (a .lines .now) base (begin-line .result) (a .m) (a .b) (a .a + length (a .w .now)) (stateFrom (a .lines .now) (begin-line .result))) (c′ .given .1) x in
-    subst (PlanIs (page (a .n) (a .m) (a .k) (a .text .now) (a .lines .now) (a .tokens .now)) (editOf (a .a) (a .b) (a .w .now))) (sym (c .plan-stop .ensures)) (stop-plan (a .n) (a .m) (a .k) (a .text .now) (a .lines .now) (a .tokens .now) (a .a) (a .b) (a .w .now) (fits-true (page (a .n) (a .m) (a .k) (a .text .now) (a .lines .now) (a .tokens .now)) (p .0)) (p .1 .0 .0) (p .1 .0 .1 .0) (subst (λ (x : List ℕ). length x ≤ 1_048_576) (p .1 .1) (p .1 .0 .1 .1)) (begin-line .result) base g (if1 .left) refl (omega (arith, U .start, edited-holds (a .n) (a .m) (a .k) (a .text .now) (a .lines .now) (a .tokens .now) (a .a) (a .b) (a .w .now) (fits-true (page (a .n) (a .m) (a .k) (a .text .now) (a .lines .now) (a .tokens .now)) (p .0)) (p .1 .0 .0) (p .1 .0 .1 .0) (subst (λ (x : List ℕ). length x ≤ 1_048_576) (p .1 .1) (p .1 .0 .1 .1)))) _ _ _ _ r (omega (arith, c .before .before .before .before .before .before .before .before .before .before .before .before .before .shared-slice-known6 .given (21 * c′ .given .0 .1 .1 .1 .0 + 0))))
+    let x = c .before .before .before .before .before in
+    let m = c .before .before .c in
+    let old = x .before .before .before .before .before .before .before .before .shared-slice-known6 .given (21 * m .given .0 .1 .1 .1 .0 + 0) in
+    rw (c .plan-stop .ensures) (stop-plan (ok x) (begun-of x) (given x (m .given .1)) (omega (arith, old)))
 
 returns-3 : tie.Need-returns-3
 returns-3 c =
-    let a = c .before .before .before .before .before .before .before .before .before .before .before .before .before .before .before .before .before .before .before .before .before .before .before .before .before .before .before .before .before .args in
-    let begin-line = c .before .before .before .before .before .before .before .before .before .before .before .before .before .before .before .before .before .before .before .before .before .before .before .begin-line in
-    let c2 = c .before .before .c2 in
-    let if1 = c .before .before .before .before .before .before .before .before .before .before .before .before .before .before .before .before .before .before .before .before .before .before .if1 in
-    let p = c .before .before .before .before .before .before .before .before .before .before .before .before .before .before .before .before .before .before .before .before .before .before .before .before .before .before .before .before .before .pre in
-    let reread-lines = c .before .before .before .before .before .reread-lines in
-    let F = fits-true (page (a .n) (a .m) (a .k) (a .text .now) (a .lines .now) (a .tokens .now)) (p .0) in
-    let g = begun (a .text .now) (a .lines .now) (a .m) (a .k) (a .a) _ (begin-line .ensures) (if1 .left) in
-    let U = usable-true (a .lines .now) (begin-line .result) (a .k) (a .a) (g .usable) in
-    let base = lineWord (a .lines .now) (begin-line .result) 0 in
-    let u = edited (take (a .n) (a .text .now)) (editOf (a .a) (a .b) (a .w .now)) in
-    let E = a .edited .now in
-    let er : take (length E - base) (drop base E) ≡ drop base u = take-all (length E - base) (drop base E) (omega (arith, length-drop base E)) ∙ ap (drop base) (p .1 .1) in
-    let lu : base + length (drop base u) ≤ 1_048_576 = omega (arith, length-drop base u, ap length (p .1 .1), p .1 .0 .1 .1, U .start, edited-holds (a .n) (a .m) (a .k) (a .text .now) (a .lines .now) (a .tokens .now) (a .a) (a .b) (a .w .now) (fits-true (page (a .n) (a .m) (a .k) (a .text .now) (a .lines .now) (a .tokens .now)) (p .0)) (p .1 .0 .0) (p .1 .0 .1 .0) (subst (λ (x : List ℕ). length x ≤ 1_048_576) (p .1 .1) (p .1 .0 .1 .1))) in
-    let x = reread-as (a .n) (a .m) (a .k) (a .text .now) (a .lines .now) (a .tokens .now) (a .a) (a .b) (a .w .now) (fits-true (page (a .n) (a .m) (a .k) (a .text .now) (a .lines .now) (a .tokens .now)) (p .0)) (p .1 .0 .0) (p .1 .0 .1 .0) (subst (λ (x : List ℕ). length x ≤ 1_048_576) (p .1 .1) (p .1 .0 .1 .1)) (begin-line .result) base g (if1 .left) refl (omega (arith, U .start, edited-holds (a .n) (a .m) (a .k) (a .text .now) (a .lines .now) (a .tokens .now) (a .a) (a .b) (a .w .now) (fits-true (page (a .n) (a .m) (a .k) (a .text .now) (a .lines .now) (a .tokens .now)) (p .0)) (p .1 .0 .0) (p .1 .0 .1 .0) (subst (λ (x : List ℕ). length x ≤ 1_048_576) (p .1 .1) (p .1 .0 .1 .1)))) (take (length E - base) (drop base E)) _ (reread-lines .result) er (c .before .before .before .before .before .before .before .before .before .before .before .before .before .before .before .load-state .ensures .0) (reread-lines .ensures) in
-    let r = subst (RereadIs (drop base u) (a .lines .now) base (begin-line .result) (a .m) (a .b) (a .a + length (a .w .now)) (stateFrom (a .lines .now) (begin-line .result))) (c2 .given .1) x in
-    subst (PlanIs (page (a .n) (a .m) (a .k) (a .text .now) (a .lines .now) (a .tokens .now)) (editOf (a .a) (a .b) (a .w .now))) (sym (c .plan-end .ensures ∙ ap (λ (n : ℕ). roomed (endPlan (a .lines .now) (begin-line .result) base (a .m) (a .k) (a .n) n (c2 .given .0 .0) (c2 .given .0 .1 .0) (c2 .given .0 .1 .1 .0)) (a .m) (a .k) (length (a .lines .now)) (length (a .tokens .now))) (ap length (p .1 .1)))) (end-plan (a .n) (a .m) (a .k) (a .text .now) (a .lines .now) (a .tokens .now) (a .a) (a .b) (a .w .now) (fits-true (page (a .n) (a .m) (a .k) (a .text .now) (a .lines .now) (a .tokens .now)) (p .0)) (p .1 .0 .0) (p .1 .0 .1 .0) (subst (λ (x : List ℕ). length x ≤ 1_048_576) (p .1 .1) (p .1 .0 .1 .1)) (begin-line .result) base g (if1 .left) refl (omega (arith, U .start, edited-holds (a .n) (a .m) (a .k) (a .text .now) (a .lines .now) (a .tokens .now) (a .a) (a .b) (a .w .now) (fits-true (page (a .n) (a .m) (a .k) (a .text .now) (a .lines .now) (a .tokens .now)) (p .0)) (p .1 .0 .0) (p .1 .0 .1 .0) (subst (λ (x : List ℕ). length x ≤ 1_048_576) (p .1 .1) (p .1 .0 .1 .1)))) _ _ _ r (omega (arith, c .before .before .before .before .before .before .before .before .before .before .before .before .before .before .before .before .before .before .before .before .before .before .before .before .before .before .before .before .before .fits)))
+    let x = c .before .before .before .before .before in
+    let s = start-of x in
+    let m = c .before .before .c2 in
+    rw (c .plan-end .ensures, s .pre .1 .1) (end-plan (ok x) (begun-of x) (given x (m .given .1)) (omega (arith, s .fits)))
 
 returns-4 : tie.Need-returns-4
-returns-4 c =
-    let a = c .before .before .before .before .before .before .before .before .before .before .before .before .before .before .before .before .before .before .before .before .before .before .before .before .before .before .before .before .args in
-    let begin-line = c .before .before .before .before .before .before .before .before .before .before .before .before .before .before .before .before .before .before .before .before .before .before .begin-line in
-    let if1 = c .before .before .before .before .before .before .before .before .before .before .before .before .before .before .before .before .before .before .before .before .before .if1 in
-    let p = c .before .before .before .before .before .before .before .before .before .before .before .before .before .before .before .before .before .before .before .before .before .before .before .before .before .before .before .before .pre in
-    let reread-lines = c .before .before .before .before .reread-lines in
-    let F = fits-true (page (a .n) (a .m) (a .k) (a .text .now) (a .lines .now) (a .tokens .now)) (p .0) in
-    let g = begun (a .text .now) (a .lines .now) (a .m) (a .k) (a .a) _ (begin-line .ensures) (if1 .left) in
-    let U = usable-true (a .lines .now) (begin-line .result) (a .k) (a .a) (g .usable) in
-    let base = lineWord (a .lines .now) (begin-line .result) 0 in
-    let u = edited (take (a .n) (a .text .now)) (editOf (a .a) (a .b) (a .w .now)) in
-    let E = a .edited .now in
-    let er : take (length E - base) (drop base E) ≡ drop base u = take-all (length E - base) (drop base E) (omega (arith, length-drop base E)) ∙ ap (drop base) (p .1 .1) in
-    let lu : base + length (drop base u) ≤ 1_048_576 = omega (arith, length-drop base u, ap length (p .1 .1), p .1 .0 .1 .1, U .start, edited-holds (a .n) (a .m) (a .k) (a .text .now) (a .lines .now) (a .tokens .now) (a .a) (a .b) (a .w .now) (fits-true (page (a .n) (a .m) (a .k) (a .text .now) (a .lines .now) (a .tokens .now)) (p .0)) (p .1 .0 .0) (p .1 .0 .1 .0) (subst (λ (x : List ℕ). length x ≤ 1_048_576) (p .1 .1) (p .1 .0 .1 .1))) in
-    let x = reread-as (a .n) (a .m) (a .k) (a .text .now) (a .lines .now) (a .tokens .now) (a .a) (a .b) (a .w .now) (fits-true (page (a .n) (a .m) (a .k) (a .text .now) (a .lines .now) (a .tokens .now)) (p .0)) (p .1 .0 .0) (p .1 .0 .1 .0) (subst (λ (x : List ℕ). length x ≤ 1_048_576) (p .1 .1) (p .1 .0 .1 .1)) (begin-line .result) base g (if1 .left) refl (omega (arith, U .start, edited-holds (a .n) (a .m) (a .k) (a .text .now) (a .lines .now) (a .tokens .now) (a .a) (a .b) (a .w .now) (fits-true (page (a .n) (a .m) (a .k) (a .text .now) (a .lines .now) (a .tokens .now)) (p .0)) (p .1 .0 .0) (p .1 .0 .1 .0) (subst (λ (x : List ℕ). length x ≤ 1_048_576) (p .1 .1) (p .1 .0 .1 .1)))) (take (length E - base) (drop base E)) _ (reread-lines .result) er (c .before .before .before .before .before .before .before .before .before .before .before .before .before .before .load-state .ensures .0) (reread-lines .ensures) in
-    let r = subst (RereadIs (drop base u) (a .lines .now) base (begin-line .result) (a .m) (a .b) (a .a + length (a .w .now)) (stateFrom (a .lines .now) (begin-line .result))) (c .before .f .given .1) x in
-    fail-plan (a .n) (a .m) (a .k) (a .text .now) (a .lines .now) (a .tokens .now) (a .a) (a .b) (a .w .now) (fits-true (page (a .n) (a .m) (a .k) (a .text .now) (a .lines .now) (a .tokens .now)) (p .0)) (p .1 .0 .0) (p .1 .0 .1 .0) (subst (λ (x : List ℕ). length x ≤ 1_048_576) (p .1 .1) (p .1 .0 .1 .1)) (begin-line .result) base g (if1 .left) refl (omega (arith, U .start, edited-holds (a .n) (a .m) (a .k) (a .text .now) (a .lines .now) (a .tokens .now) (a .a) (a .b) (a .w .now) (fits-true (page (a .n) (a .m) (a .k) (a .text .now) (a .lines .now) (a .tokens .now)) (p .0)) (p .1 .0 .0) (p .1 .0 .1 .0) (subst (λ (x : List ℕ). length x ≤ 1_048_576) (p .1 .1) (p .1 .0 .1 .1)))) _ r
+returns-4 c = let x = c .before .before .before .before in fail-plan (ok x) (begun-of x) (given x (c .before .f .given .1))
 
 returns-5 : tie.Need-returns-5
-returns-5 c =
-    let a = c .before .before .before .before .before .before .before .before .before .before .before .before .before .before .before .before .before .before .before .before .before .before .before .before .before .before .before .before .args in
-    let begin-line = c .before .before .before .before .before .before .before .before .before .before .before .before .before .before .before .before .before .before .before .before .before .before .begin-line in
-    let if1 = c .before .before .before .before .before .before .before .before .before .before .before .before .before .before .before .before .before .before .before .before .before .if1 in
-    let p = c .before .before .before .before .before .before .before .before .before .before .before .before .before .before .before .before .before .before .before .before .before .before .before .before .before .before .before .before .pre in
-    let reread-lines = c .before .before .before .before .reread-lines in
-    let F = fits-true (page (a .n) (a .m) (a .k) (a .text .now) (a .lines .now) (a .tokens .now)) (p .0) in
-    let g = begun (a .text .now) (a .lines .now) (a .m) (a .k) (a .a) _ (begin-line .ensures) (if1 .left) in
-    let U = usable-true (a .lines .now) (begin-line .result) (a .k) (a .a) (g .usable) in
-    let base = lineWord (a .lines .now) (begin-line .result) 0 in
-    let u = edited (take (a .n) (a .text .now)) (editOf (a .a) (a .b) (a .w .now)) in
-    let E = a .edited .now in
-    let er : take (length E - base) (drop base E) ≡ drop base u = take-all (length E - base) (drop base E) (omega (arith, length-drop base E)) ∙ ap (drop base) (p .1 .1) in
-    let lu : base + length (drop base u) ≤ 1_048_576 = omega (arith, length-drop base u, ap length (p .1 .1), p .1 .0 .1 .1, U .start, edited-holds (a .n) (a .m) (a .k) (a .text .now) (a .lines .now) (a .tokens .now) (a .a) (a .b) (a .w .now) (fits-true (page (a .n) (a .m) (a .k) (a .text .now) (a .lines .now) (a .tokens .now)) (p .0)) (p .1 .0 .0) (p .1 .0 .1 .0) (subst (λ (x : List ℕ). length x ≤ 1_048_576) (p .1 .1) (p .1 .0 .1 .1))) in
-    let x = reread-as (a .n) (a .m) (a .k) (a .text .now) (a .lines .now) (a .tokens .now) (a .a) (a .b) (a .w .now) (fits-true (page (a .n) (a .m) (a .k) (a .text .now) (a .lines .now) (a .tokens .now)) (p .0)) (p .1 .0 .0) (p .1 .0 .1 .0) (subst (λ (x : List ℕ). length x ≤ 1_048_576) (p .1 .1) (p .1 .0 .1 .1)) (begin-line .result) base g (if1 .left) refl (omega (arith, U .start, edited-holds (a .n) (a .m) (a .k) (a .text .now) (a .lines .now) (a .tokens .now) (a .a) (a .b) (a .w .now) (fits-true (page (a .n) (a .m) (a .k) (a .text .now) (a .lines .now) (a .tokens .now)) (p .0)) (p .1 .0 .0) (p .1 .0 .1 .0) (subst (λ (x : List ℕ). length x ≤ 1_048_576) (p .1 .1) (p .1 .0 .1 .1)))) (take (length E - base) (drop base E)) _ (reread-lines .result) er (c .before .before .before .before .before .before .before .before .before .before .before .before .before .before .load-state .ensures .0) (reread-lines .ensures) in
-    let r = subst (RereadIs (drop base u) (a .lines .now) base (begin-line .result) (a .m) (a .b) (a .a + length (a .w .now)) (stateFrom (a .lines .now) (begin-line .result))) (c .before .number .given .1) x in
-    deep-plan (a .n) (a .m) (a .k) (a .text .now) (a .lines .now) (a .tokens .now) (a .a) (a .b) (a .w .now) (fits-true (page (a .n) (a .m) (a .k) (a .text .now) (a .lines .now) (a .tokens .now)) (p .0)) (p .1 .0 .0) (p .1 .0 .1 .0) (subst (λ (x : List ℕ). length x ≤ 1_048_576) (p .1 .1) (p .1 .0 .1 .1)) (begin-line .result) base g (if1 .left) refl (omega (arith, U .start, edited-holds (a .n) (a .m) (a .k) (a .text .now) (a .lines .now) (a .tokens .now) (a .a) (a .b) (a .w .now) (fits-true (page (a .n) (a .m) (a .k) (a .text .now) (a .lines .now) (a .tokens .now)) (p .0)) (p .1 .0 .0) (p .1 .0 .1 .0) (subst (λ (x : List ℕ). length x ≤ 1_048_576) (p .1 .1) (p .1 .0 .1 .1)))) _ r
+returns-5 c = let x = c .before .before .before .before in deep-plan (ok x) (begun-of x) (given x (c .before .number .given .1))
 
 pub plan-edit-spec : {M : Type 1} → statement M
 plan-edit-spec =
