@@ -1,78 +1,79 @@
 -- `page::edit` meets its contract.
 -- Assumes nothing.
-use Prim.Native.Nat.{ℕ, _+_, _-_, _*_, _≤_, _<_, min}
-use mathlib.Core.Path.{_≡_, refl, sym, ap, subst, _∙_}
+use mathlib.Core.Path.{_≡_}
 use mathlib.Core.Bool.{true, false}
-use native.Mathlib.Omega.{arith}
 use lib.ListN.{length}
 use borrow.Author.Tests.{not-true, not-false}
-use Rattle.header.specs.Pages.{page}
+use Rattle.rules.specs.Records.{header}
+use Rattle.rules.specs.Page.{Lent, fits, pageText}
+use Rattle.rules.specs.StopRule.{Edit, edited}
+use Rattle.planning.specs.Plans.{editOf}
+use Rattle.page.specs.Answers.{lent}
 use Rattle.header.proofs.Fitting.{fits-by}
-use Rattle.page.proofs.Edits.{settled, unfit-edit, order-edit, past-edit, size-is, long-edit, text-edit, spare-edit}
+use Rattle.page.proofs.Edits.{Ranged, settled, unfit-edit, order-edit, past-edit, size-is, long-edit, text-edit, spare-edit}
 use borrow.Author.Needs.{needs}
 use Rattle.page.proofs.edit.Statement.{statement}
 use Rattle.page.proofs.edit.Tie as tie
 
+-- What is lent, and the edit.
+
+abbrev lent-at : tie.Start → Lent
+lent-at s = lent (header (s .args .n) (s .args .m) (s .args .k)) (s .args .text .now) (s .args .spare .now) (s .args .lines .now) (s .args .tokens .now)
+
+abbrev edit-at : tie.Start → Edit
+edit-at s = editOf (s .args .a) (s .args .b) (s .args .w .now)
+
 fits-requires : tie.Need-fits-requires
 fits-requires c κs = search needs
 
+abbrev start : tie.After-fits2 → tie.Start
+start c = c .before .before .before .before .before .before
+
 returns : tie.Need-returns
 returns c =
-    let a = c .before .before .before .before .before .before .before .args in
-    unfit-edit (a .n) (a .m) (a .k) (a .text .now) (a .spare .now) (a .lines .now) (a .tokens .now) (a .a) (a .b) (a .w .now) (fits-by (page (a .n) (a .m) (a .k) (a .text .now) (a .lines .now) (a .tokens .now)) (c .before .fits2 .result) false (c .before .fits2 .ensures) (not-true (c .before .fits2 .result) (c .if1 .taken)))
+    let f = c .before in
+    unfit-edit (lent-at (start f)) (edit-at (start f)) (fits-by (lent-at (start f) .page) (f .fits2 .result) false (f .fits2 .ensures) (not-true (f .fits2 .result) (c .if1 .taken)))
+
+-- the page fits
+fit : (c : tie.Else1) → fits (lent-at (start (c .before)) .page) ≡ true
+fit c = fits-by (lent-at (start (c .before)) .page) (c .before .fits2 .result) true (c .before .fits2 .ensures) (not-false (c .before .fits2 .result) (c .if1 .left))
 
 returns-2 : tie.Need-returns-2
-returns-2 c =
-    let a = c .before .before .before .before .before .before .before .before .args in
-    let fits2 = c .before .before .fits2 in
-    order-edit (a .n) (a .m) (a .k) (a .text .now) (a .spare .now) (a .lines .now) (a .tokens .now) (a .a) (a .b) (a .w .now) (fits-by (page (a .n) (a .m) (a .k) (a .text .now) (a .lines .now) (a .tokens .now)) (fits2 .result) true (fits2 .ensures) (not-false (fits2 .result) (c .before .if1 .left))) (c .if2 .taken)
+returns-2 c = order-edit _ _ (fit (c .before)) (c .if2 .taken)
 
 returns-3 : tie.Need-returns-3
-returns-3 c =
-    let a = c .before .before .before .before .before .before .before .before .before .args in
-    let fits2 = c .before .before .before .fits2 in
-    past-edit (a .n) (a .m) (a .k) (a .text .now) (a .spare .now) (a .lines .now) (a .tokens .now) (a .a) (a .b) (a .w .now) (fits-by (page (a .n) (a .m) (a .k) (a .text .now) (a .lines .now) (a .tokens .now)) (fits2 .result) true (fits2 .ensures) (not-false (fits2 .result) (c .before .before .if1 .left))) (c .if3 .taken)
+returns-3 c = past-edit _ _ (fit (c .before .before)) (c .if3 .taken)
 
 edited-length-requires : tie.Need-edited-length-requires
 edited-length-requires c κs = search needs
 
+-- the range is proper
+abbrev start-of : tie.Else3 → tie.Start
+start-of c = start (c .before .before .before)
+
+ranged : (c : tie.Else3) → Ranged (lent-at (start-of c)) (edit-at (start-of c))
+ranged c = record { fit = fit (c .before .before); order = c .before .if2 .left; inside = c .if3 .left }
+
 returns-4 : tie.Need-returns-4
-returns-4 c =
-    let a = c .before .before .before .before .before .before .before .before .before .before .before .args in
-    let fits2 = c .before .before .before .before .before .fits2 in
-    long-edit (a .n) (a .m) (a .k) (a .text .now) (a .spare .now) (a .lines .now) (a .tokens .now) (a .a) (a .b) (a .w .now) (fits-by (page (a .n) (a .m) (a .k) (a .text .now) (a .lines .now) (a .tokens .now)) (fits2 .result) true (fits2 .ensures) (not-false (fits2 .result) (c .before .before .before .before .if1 .left))) (c .before .before .before .if2 .left) (c .before .before .if3 .left) _ (c .before .edited-length .ensures) (c .if4 .taken)
+returns-4 c = long-edit _ _ (ranged (c .before .before)) _ (c .before .edited-length .ensures) (c .if4 .taken)
+
+-- the length is that of the edited text
+size-of : (c : tie.Else4) → let s = start-of (c .before .before) in c .before .edited-length .result ≡ length (edited (pageText (lent-at s .page)) (edit-at s))
+size-of c = settled _ _ _ (c .before .edited-length .ensures) (size-is _ _ (ranged (c .before .before))) (c .if4 .left)
 
 returns-5 : tie.Need-returns-5
-returns-5 c =
-    let a = c .before .before .before .before .before .before .before .before .before .before .before .before .args in
-    let fits2 = c .before .before .before .before .before .before .fits2 in
-    let if1 = c .before .before .before .before .before .if1 in
-    let if2 = c .before .before .before .before .if2 in
-    let if3 = c .before .before .before .if3 in
-    let s = settled _ _ _ (c .before .before .edited-length .ensures) (size-is (a .n) (a .m) (a .k) (a .text .now) (a .spare .now) (a .lines .now) (a .tokens .now) (a .a) (a .b) (a .w .now) (fits-by (page (a .n) (a .m) (a .k) (a .text .now) (a .lines .now) (a .tokens .now)) (fits2 .result) true (fits2 .ensures) (not-false (fits2 .result) (if1 .left))) (if2 .left) (if3 .left)) (c .before .if4 .left) in
-    text-edit (a .n) (a .m) (a .k) (a .text .now) (a .spare .now) (a .lines .now) (a .tokens .now) (a .a) (a .b) (a .w .now) (fits-by (page (a .n) (a .m) (a .k) (a .text .now) (a .lines .now) (a .tokens .now)) (fits2 .result) true (fits2 .ensures) (not-false (fits2 .result) (if1 .left))) (if2 .left) (if3 .left) _ s (c .before .if4 .left) (c .if5 .taken)
+returns-5 c = text-edit _ _ (ranged (c .before .before .before)) (size-of (c .before)) (c .before .if4 .left) (c .if5 .taken)
 
 returns-6 : tie.Need-returns-6
 returns-6 c =
-    let a = c .before .before .before .before .before .before .before .before .before .before .before .before .before .args in
-    let fits2 = c .before .before .before .before .before .before .before .fits2 in
-    let if1 = c .before .before .before .before .before .before .if1 in
-    let if2 = c .before .before .before .before .before .if2 in
-    let if3 = c .before .before .before .before .if3 in
-    let if4 = c .before .before .if4 in
-    let s = settled _ _ _ (c .before .before .before .edited-length .ensures) (size-is (a .n) (a .m) (a .k) (a .text .now) (a .spare .now) (a .lines .now) (a .tokens .now) (a .a) (a .b) (a .w .now) (fits-by (page (a .n) (a .m) (a .k) (a .text .now) (a .lines .now) (a .tokens .now)) (fits2 .result) true (fits2 .ensures) (not-false (fits2 .result) (if1 .left))) (if2 .left) (if3 .left)) (if4 .left) in
-    spare-edit (a .n) (a .m) (a .k) (a .text .now) (a .spare .now) (a .lines .now) (a .tokens .now) (a .a) (a .b) (a .w .now) (fits-by (page (a .n) (a .m) (a .k) (a .text .now) (a .lines .now) (a .tokens .now)) (fits2 .result) true (fits2 .ensures) (not-false (fits2 .result) (if1 .left))) (if2 .left) (if3 .left) _ s (if4 .left) (c .before .if5 .left) (c .if6 .taken)
+    let z = c .before .before in
+    spare-edit _ _ (ranged (z .before .before)) (size-of z) (z .if4 .left) (c .before .if5 .left) (c .if6 .taken)
 
 edit-text-requires : tie.Need-edit-text-requires
 edit-text-requires c κs =
-    let a = c .before .before .before .before .before .before .before .before .before .before .before .before .before .before .before .before .before .args in
-    let fits2 = c .before .before .before .before .before .before .before .before .before .before .before .fits2 in
-    let if1 = c .before .before .before .before .before .before .before .before .before .before .if1 in
-    let if2 = c .before .before .before .before .before .before .before .before .before .if2 in
-    let if3 = c .before .before .before .before .before .before .before .before .if3 in
-    let if4 = c .before .before .before .before .before .before .if4 in
-    let s = settled _ _ _ (c .before .before .before .before .before .before .before .edited-length .ensures) (size-is (a .n) (a .m) (a .k) (a .text .now) (a .spare .now) (a .lines .now) (a .tokens .now) (a .a) (a .b) (a .w .now) (fits-by (page (a .n) (a .m) (a .k) (a .text .now) (a .lines .now) (a .tokens .now)) (fits2 .result) true (fits2 .ensures) (not-false (fits2 .result) (if1 .left))) (if2 .left) (if3 .left)) (if4 .left) in
-    ((fits-by (page (a .n) (a .m) (a .k) (a .text .now) (a .lines .now) (a .tokens .now)) (fits2 .result) true (fits2 .ensures) (not-false (fits2 .result) (if1 .left))), ((if2 .left, (if3 .left, s)), (if4 .left, (c .before .before .before .before .before .if5 .left, c .before .before .before .before .if6 .left))))
+    let z = c .before .before .before .before .before .before in
+    let g = ranged (z .before .before) in
+    (g .fit, ((g .order, (g .inside, size-of z)), (z .if4 .left, (c .before .before .before .before .before .if5 .left, c .before .before .before .before .if6 .left))))
 
 same-length : tie.Need-same-length
 same-length c = search needs
