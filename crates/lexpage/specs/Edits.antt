@@ -13,7 +13,7 @@ use Rattle.page.specs.Answers.{lentAfter}
 
 -- THE CONTRACT of the call: an answer that the edit's contract allows, with the buffers it leaves, stands at the front of the
 -- reply, and `count` is the number of its words
-pub record EditTold (q : Lent) (ed : Edit) (reply : List ℕ) (count : ℕ) (reply′ text spare lines tokens : List ℕ) : Type 0 where
+pub record EditReplied (q : Lent) (ed : Edit) (reply : List ℕ) (count : ℕ) (reply′ text spare lines tokens : List ℕ) : Type 0 where
   pub answer : Reply
   pub count-is : count ≡ length answer
   pub reply-is : reply′ ≡ sets reply 0 answer

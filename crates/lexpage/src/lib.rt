@@ -20,7 +20,7 @@ ghost use Rattle.rules.specs.Check.{checkReply};
 ghost use Rattle.planning.specs.Plans.{editOf};
 ghost use Rattle.page.specs.Answers.{freshNumbers, editNumbers, lent};
 ghost use Rattle.checking.specs.Answers.{checkNumbers};
-ghost use Rattle.lexpage.specs.Edits.{EditTold};
+ghost use Rattle.lexpage.specs.Edits.{EditReplied};
 
 // Two words.
 fn put_two(reply: &mut [u64; 16], a: u64, b: u64) -> u64
@@ -324,7 +324,7 @@ pub extern "C" fn lexpage_edit(
     w: &[u8],
     reply: &mut [u64; 16],
 ) -> u64
-    ensures { λ r. ⌜ EditTold (lent (header n m k) (now (text .entry)) (now (spare .entry)) (now (lines .entry)) (now (tokens .entry))) (editOf a b (now (w .entry))) (now (reply .entry)) r (now (reply .exit)) (now (text .exit)) (now (spare .exit)) (now (lines .exit)) (now (tokens .exit)) ⌝ }
+    ensures { λ r. ⌜ EditReplied (lent (header n m k) (now (text .entry)) (now (spare .entry)) (now (lines .entry)) (now (tokens .entry))) (editOf a b (now (w .entry))) (now (reply .entry)) r (now (reply .exit)) (now (text .exit)) (now (spare .exit)) (now (lines .exit)) (now (tokens .exit)) ⌝ }
 {
     put_edit(
         reply,

@@ -12,15 +12,15 @@ use Rattle.rules.specs.Lists.{if_then_else_, within}
 use Rattle.rules.specs.Tables.{isDigit, isHexDigit}
 use Rattle.rules.specs.ByteValue.{hexValue, asciiValue, hexPair, valueWords}
 use Rattle.rules.proofs.ListLaws.{and-true}
-use Rattle.queries.specs.Answers.{worth}
+use Rattle.queries.specs.Answers.{optionReply}
 use Rattle.queries.specs.Steps.{digitOr}
 
 -- a reply with no value, and with one
-pub nothing : {v : Option ℕ} → v ≡ none → (0 ∷ 0 ∷ []) ≡ worth v
+pub nothing : {v : Option ℕ} → v ≡ none → (0 ∷ 0 ∷ []) ≡ optionReply v
 unfolding valueWords
 nothing e = rw e
 
-pub valued : {v : Option ℕ} {n : ℕ} (m : ℕ) → v ≡ some n → m ≡ n → (0 ∷ 1 ∷ m ∷ []) ≡ worth v
+pub valued : {v : Option ℕ} {n : ℕ} (m : ℕ) → v ≡ some n → m ≡ n → (0 ∷ 1 ∷ m ∷ []) ≡ optionReply v
 unfolding valueWords
 valued m e q = rw (e, q)
 

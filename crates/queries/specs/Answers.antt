@@ -24,8 +24,8 @@ columnNumbers (a-column.Malformed n) = 2 ∷ n ∷ []
 columnNumbers a-column.Outside = 6 ∷ []
 
 -- a value, or none, accepted
-abbrev pub worth : Option ℕ → Reply
-worth v = accepted (valueWords v)
+abbrev pub optionReply : Option ℕ → Reply
+optionReply v = accepted (valueWords v)
 
 -- the reply of a text that passes the tests 1 and 2
 abbrev pub placeReply : List ℕ → (at : ℕ) → Reply

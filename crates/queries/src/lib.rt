@@ -4,7 +4,7 @@ ghost use Prim.Native.Nat.{_≤_};
 ghost use lib.ListN.{length};
 ghost use Rattle.rules.specs.ByteValue.{asciiValue, escapeValue, hexPair, innerValue, closedValue, literalValue, valueReply};
 ghost use Rattle.rules.specs.Column.{columnReply};
-ghost use Rattle.queries.specs.Answers.{valueNumbers, worth, columnNumbers, placeReply};
+ghost use Rattle.queries.specs.Answers.{valueNumbers, optionReply, columnNumbers, placeReply};
 ghost use Rattle.queries.specs.Steps.{digitOr, countAfter};
 
 // The longest text that is read.
@@ -56,7 +56,7 @@ fn hex_digit(b: u8) -> u32
 
 // The value of `\x` with these two bytes: two hex digits up to 7F, or `+` and a hex digit.
 fn hex_pair(high: u8, low: u8) -> Value
-    ensures { λ r. ⌜ valueNumbers r ≡ worth (hexPair high low) ⌝ }
+    ensures { λ r. ⌜ valueNumbers r ≡ optionReply (hexPair high low) ⌝ }
 {
     let l = hex_digit(low);
     if l == 16 {
@@ -77,7 +77,7 @@ fn hex_pair(high: u8, low: u8) -> Value
 
 // The value of a backslash with this byte.
 fn escape_value(b: u8) -> Value
-    ensures { λ r. ⌜ valueNumbers r ≡ worth (escapeValue b) ⌝ }
+    ensures { λ r. ⌜ valueNumbers r ≡ optionReply (escapeValue b) ⌝ }
 {
     match b {
         48 => Value::Is(0),
@@ -93,7 +93,7 @@ fn escape_value(b: u8) -> Value
 
 // The value of a byte that stands for itself.
 fn ascii_value(b: u8) -> Value
-    ensures { λ r. ⌜ valueNumbers r ≡ worth (asciiValue b) ⌝ }
+    ensures { λ r. ⌜ valueNumbers r ≡ optionReply (asciiValue b) ⌝ }
 {
     if b < 128 {
         return Value::Is(b as u32);
@@ -103,7 +103,7 @@ fn ascii_value(b: u8) -> Value
 
 // The value of what stands between the quotes.
 fn inner_value(inner: &[u8]) -> Value
-    ensures { λ r. ⌜ valueNumbers r ≡ worth (innerValue (now (inner .entry))) ⌝ }
+    ensures { λ r. ⌜ valueNumbers r ≡ optionReply (innerValue (now (inner .entry))) ⌝ }
 {
     if inner.len() == 1 {
         return ascii_value(inner[0]);
@@ -128,7 +128,7 @@ fn inner_value(inner: &[u8]) -> Value
 
 // The value of what follows the opening quote: the closing quote must be there.
 fn closed_value(rest: &[u8]) -> Value
-    ensures { λ r. ⌜ valueNumbers r ≡ worth (closedValue (now (rest .entry))) ⌝ }
+    ensures { λ r. ⌜ valueNumbers r ≡ optionReply (closedValue (now (rest .entry))) ⌝ }
 {
     if rest.len() == 0 {
         return Value::Nothing;
@@ -142,7 +142,7 @@ fn closed_value(rest: &[u8]) -> Value
 
 // The value of a text that is a byte literal.
 fn literal_value(text: &[u8]) -> Value
-    ensures { λ r. ⌜ valueNumbers r ≡ worth (literalValue (now (text .entry))) ⌝ }
+    ensures { λ r. ⌜ valueNumbers r ≡ optionReply (literalValue (now (text .entry))) ⌝ }
 {
     if text.len() < 2 {
         return Value::Nothing;

@@ -1,11 +1,11 @@
 // A recorded list held against the code: a text with its answers on each line, in the format of oracle/README.md. A position in a case
-// is the end of the fields that agree so far, or LOST, which lies past every case.
+// is the end of the fields that agree so far, or MISMATCH, which lies past every case.
 ghost use mathlib.Core.Path.{_≡_};
 ghost use Prim.Native.Nat.{_+_, _≤_, _<_};
 ghost use lib.ListN.{length};
 
 // The position after a field that differs.
-pub const LOST: usize = 0xFFFF_FFFF_FFFF_FFFF;
+pub const MISMATCH: usize = 0xFFFF_FFFF_FFFF_FFFF;
 
 // What a word or a byte holds before a call.
 pub const FILL: u64 = 0xAAAA_AAAA;
@@ -84,12 +84,12 @@ pub fn number_after(case: &[u8], at: usize) -> u64 {
 // Past the field after `at`, where it spells this number.
 pub fn past_number(case: &[u8], at: usize, value: u64) -> usize {
     if case.len() <= at {
-        return LOST;
+        return MISMATCH;
     }
     let from = at + 1;
     let end = field_end(case, from);
     if !spelled(&case[from..end], value) {
-        return LOST;
+        return MISMATCH;
     }
     end
 }
@@ -100,7 +100,7 @@ fn past_word(case: &[u8], at: usize, word: u64, counted: bool) -> usize {
         return past_number(case, at, word);
     }
     if word != FILL {
-        return LOST;
+        return MISMATCH;
     }
     at
 }
@@ -120,7 +120,7 @@ pub fn past_reply(case: &[u8], at: usize, reply: &[u64; 16], count: u64) -> usiz
 fn past_words(case: &[u8], at: usize, words: &[u32]) -> usize {
     let count = number_after(case, at);
     if (words.len() as u64) < count {
-        return LOST;
+        return MISMATCH;
     }
     let mut p = past_number(case, at, count);
     let mut i: usize = 0;
@@ -204,7 +204,7 @@ fn past_reading(case: &[u8], at: usize, text: &[u8]) -> usize {
 // A report's reply tells a message of this size, or else it is the reply that stands after `first`.
 fn told(case: &[u8], first: usize, reply: &[u64; 16], count: u64, size: usize) -> bool {
     if reply[0] != 0 {
-        return past_reply(case, first, reply, count) != LOST;
+        return past_reply(case, first, reply, count) != MISMATCH;
     }
     if reply[1] != size as u64 {
         return false;
@@ -215,7 +215,7 @@ fn told(case: &[u8], first: usize, reply: &[u64; 16], count: u64, size: usize) -
 // Past the field after `at`, where it spells the message of a text whose reply to a reading stands after `first`.
 fn past_message(case: &[u8], at: usize, first: usize, text: &[u8]) -> usize {
     if case.len() <= at {
-        return LOST;
+        return MISMATCH;
     }
     let from = at + 1;
     let end = field_end(case, from);
@@ -225,13 +225,13 @@ fn past_message(case: &[u8], at: usize, first: usize, text: &[u8]) -> usize {
     let mut reply: [u64; 16] = [FILL; 16];
     let count = lexpage::lexpage_report(text, &mut out, &mut reply);
     if !spells(end - from, size) {
-        return LOST;
+        return MISMATCH;
     }
     if !check::same(&out, &wanted) {
-        return LOST;
+        return MISMATCH;
     }
     if !told(case, first, &reply, count, size) {
-        return LOST;
+        return MISMATCH;
     }
     end
 }

@@ -1,6 +1,6 @@
 // Recorded lists of edits held against `history::apply_edits`, in the format of oracle/README.md: a line for a page, then a line for each of
 // its edits. Each edit is replayed with all that stand before it, from the fresh page on. A position in a line is the end of the fields that
-// agree so far, or LOST, as in `replay`.
+// agree so far, or MISMATCH, as in `replay`.
 ghost use mathlib.Core.Path.{_≡_};
 ghost use Prim.Native.Nat.{_≤_, _<_};
 ghost use lib.ListN.{length};
@@ -103,68 +103,68 @@ fn digest(text: &[u8], spare: &[u8], lines: &[u32], tokens: &[u32]) -> u64 {
 
 // Lines.
 
-// The byte at the front, so many times as the field spells: how many they are, or LOST.
+// The byte at the front, so many times as the field spells: how many they are, or MISMATCH.
 fn put_repeated(field: &[u8], bytes: &mut [u8]) -> usize {
     let count = replay::number(field);
     if !replay::spelled(field, count) {
-        return replay::LOST;
+        return replay::MISMATCH;
     }
     if MOST < count {
-        return replay::LOST;
+        return replay::MISMATCH;
     }
     if (bytes.len() as u64) < count {
-        return replay::LOST;
+        return replay::MISMATCH;
     }
     if bytes.len() == 0 {
-        return replay::LOST;
+        return replay::MISMATCH;
     }
     let b = bytes[0];
     print::put_fill(bytes, true, 0, b, count as usize)
 }
 
-// The bytes that a field spells, in hex or as one byte, `*` and how often it stands: how many they are, or LOST.
+// The bytes that a field spells, in hex or as one byte, `*` and how often it stands: how many they are, or MISMATCH.
 fn put_inserted(field: &[u8], bytes: &mut [u8]) -> usize {
     let star = replay::find(field, 0, 42);
     let size = replay::put_hex(&field[..star], bytes);
     if !replay::spells(star, size) {
-        return replay::LOST;
+        return replay::MISMATCH;
     }
     if star == field.len() {
         return size;
     }
     if size != 1 {
-        return replay::LOST;
+        return replay::MISMATCH;
     }
     put_repeated(&field[star + 1..], bytes)
 }
 
-// The bytes that the field after `at` spells, held from `from` on: where they end, or LOST.
+// The bytes that the field after `at` spells, held from `from` on: where they end, or MISMATCH.
 fn hold_inserted(line: &[u8], at: usize, bytes: &mut [u8], from: usize) -> usize {
     if line.len() <= at {
-        return replay::LOST;
+        return replay::MISMATCH;
     }
     if bytes.len() < from {
-        return replay::LOST;
+        return replay::MISMATCH;
     }
     let start = at + 1;
     let end = replay::field_end(line, start);
     let size = put_inserted(&line[start..end], &mut bytes[from..]);
     if bytes.len() - from < size {
-        return replay::LOST;
+        return replay::MISMATCH;
     }
     from + size
 }
 
-// The four numbers of an edit, held from i on: where they end, or LOST.
+// The four numbers of an edit, held from i on: where they end, or MISMATCH.
 fn hold_edit(edits: &mut [usize], i: usize, a: u64, b: u64, from: usize, to: usize) -> usize {
-    if to == replay::LOST {
-        return replay::LOST;
+    if to == replay::MISMATCH {
+        return replay::MISMATCH;
     }
     if edits.len() <= i {
-        return replay::LOST;
+        return replay::MISMATCH;
     }
     if edits.len() - i < 4 {
-        return replay::LOST;
+        return replay::MISMATCH;
     }
     edits[i] = a as usize;
     edits[i + 1] = b as usize;
@@ -176,7 +176,7 @@ fn hold_edit(edits: &mut [usize], i: usize, a: u64, b: u64, from: usize, to: usi
 // Past the field after `at`.
 fn past_field(line: &[u8], at: usize) -> usize {
     if line.len() <= at {
-        return replay::LOST;
+        return replay::MISMATCH;
     }
     replay::field_end(line, at + 1)
 }
@@ -193,8 +193,8 @@ fn with_edit(line: &[u8], h: Held, edits: &mut [usize], bytes: &mut [u8]) -> Hel
     r.used = to;
     r.count = hold_edit(edits, h.count, a, b, from, to);
     r.at = past_field(line, q);
-    if r.count == replay::LOST {
-        r.at = replay::LOST;
+    if r.count == replay::MISMATCH {
+        r.at = replay::MISMATCH;
     }
     r
 }
@@ -248,7 +248,7 @@ fn with_header(h: Held, o: history::Outcome, reply: &[u64; 16], at: usize) -> He
     let mut r = h;
     r.at = at;
     if !follows(o.n, o.m, o.k, h, reply) {
-        r.at = replay::LOST;
+        r.at = replay::MISMATCH;
     }
     r.n = o.n;
     r.m = o.m;
@@ -347,7 +347,7 @@ fn after_line(
     tokens: &mut [u32],
 ) -> Held {
     let mut lost = h;
-    lost.at = replay::LOST;
+    lost.at = replay::MISMATCH;
     if line.len() == 0 {
         return lost;
     }

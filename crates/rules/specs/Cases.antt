@@ -45,14 +45,14 @@ put : (a b : ℕ) → String → Edit
 put a b w = record { a = a; b = b; w = ascii w }
 
 -- a line at width 0, one at width 1 and so on, n levels deep, and the tokens of its lines from number l at byte p on
-ladder : ℕ → List ℕ
-ladder zero = ascii "a\n"
-ladder (suc n) = ladder n ++ (replicate (suc n) (code " ") ++ ascii "a\n")
+indentedLines : ℕ → List ℕ
+indentedLines zero = ascii "a\n"
+indentedLines (suc n) = indentedLines n ++ (replicate (suc n) (code " ") ++ ascii "a\n")
 
-rungs : (count width p l : ℕ) → List ℕ → List ℕ
-rungs zero w p l rest = rest
-rungs (suc count) w p l rest =
-    tok "Indent" p 0 l 1 (tok "Ident" (p + w) 1 l (suc w) (tok "Newline" (suc (p + w)) 0 l (2 + w) (rungs count (suc w) (2 + p + w) (suc l) rest)))
+indentedTokens : (count width p l : ℕ) → List ℕ → List ℕ
+indentedTokens zero w p l rest = rest
+indentedTokens (suc count) w p l rest =
+    tok "Indent" p 0 l 1 (tok "Ident" (p + w) 1 l (suc w) (tok "Newline" (suc (p + w)) 0 l (2 + w) (indentedTokens count (suc w) (2 + p + w) (suc l) rest)))
 
 closings : (count p l : ℕ) → List ℕ
 closings zero p l = []
@@ -90,10 +90,10 @@ cases =
     ∷ (editL2 (put 0 1 "a(") gives 0 ∷ 7 ∷ 2 ∷ 5 ∷ 2 ∷ 0 ∷ tok "Ident" 0 1 1 1 (tok "LParen" 1 1 1 2 (tok "Newline" 2 0 1 3
     (tok "Ident" 5 1 2 3 (tok "Newline" 6 0 2 4 [])))))
     -- L11
-    ∷ (tokensOf (ladder 16) gives 0 ∷ tok "Ident" 0 1 1 1 (tok "Newline" 1 0 1 2 (rungs 16 1 2 2 (closings 16 170 18))))
-    ∷ (tokensOf (ladder 17) gives 4 ∷ 18 ∷ [])
+    ∷ (tokensOf (indentedLines 16) gives 0 ∷ tok "Ident" 0 1 1 1 (tok "Newline" 1 0 1 2 (indentedTokens 16 1 2 2 (closings 16 170 18))))
+    ∷ (tokensOf (indentedLines 17) gives 4 ∷ 18 ∷ [])
     ∷ []
 
 pub cases-hold : map (λ (c : Case). c .got) cases ≡ map (λ (c : Case). c .want) cases
-unfolding cases _gives_ tok tokensBy tokensOf l2 editL2 put ladder rungs closings editRules
+unfolding cases _gives_ tok tokensBy tokensOf l2 editL2 put indentedLines indentedTokens closings editRules
 cases-hold = refl

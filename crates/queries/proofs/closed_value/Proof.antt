@@ -5,7 +5,7 @@ use mathlib.Core.Path.{_≡_, sym, ap, _∙_}
 use native.Mathlib.Omega.{arith}
 use lib.ListN.{length, take}
 use Rattle.rules.specs.ByteValue.{innerValue}
-use Rattle.queries.specs.Answers.{worth}
+use Rattle.queries.specs.Answers.{optionReply}
 use Rattle.queries.proofs.Digits.{nothing}
 use Rattle.queries.proofs.Literals.{closed-empty, unclosed, closed}
 use borrow.Author.Needs.{needs}
@@ -42,7 +42,7 @@ returns-3 c =
     let a = f .before .before .before .before .args in
     let k : ℕ = length (a .rest .now) - 1 in
     let e : k - 0 ≡ k = omega arith in
-    c .inner-value .ensures ∙ ap (λ (n : ℕ). worth (innerValue (take n (a .rest .now)))) e ∙ ap worth (sym (closed (a .rest .now) k (omega arith) (f .if2 .left)))
+    c .inner-value .ensures ∙ ap (λ (n : ℕ). optionReply (innerValue (take n (a .rest .now)))) e ∙ ap optionReply (sym (closed (a .rest .now) k (omega arith) (f .if2 .left)))
 
 pub closed-value-spec : {M : Type 1} → statement M
 closed-value-spec =

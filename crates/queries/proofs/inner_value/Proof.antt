@@ -1,7 +1,7 @@
 -- `queries::inner_value` meets its contract.
 -- Assumes nothing.
 use mathlib.Core.Path.{sym, ap, _∙_}
-use Rattle.queries.specs.Answers.{worth}
+use Rattle.queries.specs.Answers.{optionReply}
 use Rattle.queries.proofs.Digits.{nothing}
 use Rattle.queries.proofs.Literals.{inner-one, inner-none, escape, no-escape, no-backslash, no-x, hex}
 use borrow.Author.Needs.{needs}
@@ -15,7 +15,7 @@ ascii-value-requires : tie.Need-ascii-value-requires
 ascii-value-requires c κs = search needs
 
 returns : tie.Need-returns
-returns c = c .ascii-value .ensures ∙ ap worth (sym (inner-one _ (c .before .before .if1 .taken)))
+returns c = c .ascii-value .ensures ∙ ap optionReply (sym (inner-one _ (c .before .before .if1 .taken)))
 
 shared-slice-read-if3 : tie.Need-shared-slice-read-if3
 shared-slice-read-if3 c = search needs
@@ -29,7 +29,7 @@ escape-value-requires c κs = search needs
 returns-2 : tie.Need-returns-2
 returns-2 c =
     let f = c .before .before in
-    c .escape-value .ensures ∙ ap worth (sym (escape _ (f .before .before .if2 .taken) (f .if3 .taken)))
+    c .escape-value .ensures ∙ ap optionReply (sym (escape _ (f .before .before .if2 .taken) (f .if3 .taken)))
 
 returns-3 : tie.Need-returns-3
 returns-3 c = nothing (no-escape _ (c .before .before .if2 .taken) (c .if3 .left))
@@ -61,7 +61,7 @@ returns-6 : tie.Need-returns-6
 returns-6 c =
     let g = c .before .before .before in
     let f = g .before .before in
-    c .hex-pair .ensures ∙ ap worth (sym (hex _ (f .before .before .if4 .taken) (f .if5 .left) (g .if6 .left)))
+    c .hex-pair .ensures ∙ ap optionReply (sym (hex _ (f .before .before .if4 .taken) (f .if5 .left) (g .if6 .left)))
 
 returns-7 : tie.Need-returns-7
 returns-7 c = nothing (inner-none _ (c .before .before .if1 .left) (c .before .if2 .left) (c .if4 .left))

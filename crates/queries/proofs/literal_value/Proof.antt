@@ -7,7 +7,7 @@ use native.Mathlib.Omega.{arith}
 use lib.ListN.{length, take, drop, length-drop}
 use lib.Seq.{take-all}
 use Rattle.rules.specs.ByteValue.{closedValue}
-use Rattle.queries.specs.Answers.{worth}
+use Rattle.queries.specs.Answers.{optionReply}
 use Rattle.queries.proofs.Digits.{nothing}
 use Rattle.queries.proofs.Literals.{literal-short, no-b, no-quote, opened}
 use borrow.Author.Needs.{needs}
@@ -49,7 +49,7 @@ returns-4 c =
     let f = g .before .before in
     let t = f .before .before .before .before .args .text .now in
     let e : take (length t - 2) (drop 2 t) ≡ drop 2 t = take-all (length t - 2) (drop 2 t) (omega (arith, length-drop 2 t)) in
-    c .closed-value .ensures ∙ ap (λ (s : List ℕ). worth (closedValue s)) e ∙ ap worth (sym (opened _ (f .before .before .if1 .left) (f .if2 .left) (g .if3 .left)))
+    c .closed-value .ensures ∙ ap (λ (s : List ℕ). optionReply (closedValue s)) e ∙ ap optionReply (sym (opened _ (f .before .before .if1 .left) (f .if2 .left) (g .if3 .left)))
 
 pub literal-value-spec : {M : Type 1} → statement M
 literal-value-spec =
