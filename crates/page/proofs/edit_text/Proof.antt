@@ -90,7 +90,7 @@ plan-edit-requires c κs =
     let p = start x .pre in
     (p .0, ((p .1 .0 .0, (p .1 .0 .1 .0, omega (arith, length-at x, p .1 .1 .0))), edited-at x))
 
--- What was planned; a refusal of the plan is one of the edit.
+-- What was planned, for a well-formed text.
 
 abbrev formed : tie.After-plan-edit → tie.Else1
 formed c = c .before .before .before .before .before
@@ -104,6 +104,7 @@ start-of c = start (splice-at c)
 planned : (c : tie.After-plan-edit) {r : PlanAnswer} → c .plan-edit .result ≡ r → PlanIs (lent-at (start-of c) .page) (edit-at (start-of c)) r
 planned c e = subst (PlanIs (lent-at (start-of c) .page) (edit-at (start-of c))) e (c .plan-edit .ensures)
 
+-- a refusal of the plan is one of the edit
 refused : (c : tie.After-plan-edit) {r : PlanAnswer} → c .plan-edit .result ≡ r → RefusedAs (lent-at (start-of c)) (edit-at (start-of c)) (spare-at (splice-at c)) r
 refused c {r} e = refused-edit _ _ (spliced (splice-at c)) (formed c .before .well-formed-prefix .ensures) (formed c .if1 .left) r (planned c e)
 

@@ -196,10 +196,10 @@ rewrite-lines-requires c κs =
 abbrev began : tie.After-rewrite-lines → tie.Start
 began c = start (state-at (tabled c))
 
--- the widths, and how long the buffers are
 abbrev widths-at : tie.After-rewrite-lines → List ℕ
 widths-at c = c .rewrite-lines .last .1 .1 .1 .1 .1 .1 .1 .1 .1 .1 .1 .1 .0
 
+-- the state that those lines reach, as the code has it
 reached : (c : tie.After-rewrite-lines) → Reached (plannedLines (began c .args .edited .now) (began c .args .lines .now) (began c .args .p)) (c .rewrite-lines .result) (widths-at c)
 reached c =
     let l = state-at (tabled c) in
@@ -209,6 +209,7 @@ reached c =
       is = subst (λ (r : Reading). Reaches r (stateOf (c .rewrite-lines .result) (widths-at c))) (rest-read l) (c .rewrite-lines .ensures .0 .0);
     }
 
+-- the buffers are as long as they were
 lines-long : (c : tie.After-rewrite-lines) → length (c .rewrite-lines .last .1 .1 .1 .1 .1 .1 .0) ≡ length (began c .args .lines .now)
 lines-long c = c .rewrite-lines .kept .1 .1 .1 .1 .1 .1 .0 ∙ lines-moved (tabled c) .move-lines .kept .0
 
