@@ -110,6 +110,18 @@ module _ (z : Sizes) (t : List ℕ) (ed : Edit) where
           unfolding gate earlyTests firstOf unless refusedIf
           gate-clear h = rw (proper-true t ed p, h1, le-ltb (z .text) (length (edited t ed)) h2, le-ltb (z .spare) (length (edited t ed)) h3, h)
 
+-- The records' tests: the lines before the tokens.
+
+module _ (lines tokens : ℕ) (r : Records) where
+  pub room-lines : lines < lineNeed (r .head .m) → firstOf (recordTests lines tokens r) ≡ some (short linesBuffer (lineNeed (r .head .m)))
+  unfolding recordTests firstOf refusedIf
+  room-lines h = rw (lt-ltb lines (lineNeed (r .head .m)) h)
+
+  pub room-tokens : lineNeed (r .head .m) ≤ lines → tokens < tokenNeed (r .head .k)
+      → firstOf (recordTests lines tokens r) ≡ some (short tokensBuffer (tokenNeed (r .head .k)))
+  unfolding recordTests firstOf refusedIf
+  room-tokens k h = rw (le-ltb lines (lineNeed (r .head .m)) k, lt-ltb tokens (tokenNeed (r .head .k)) h)
+
 -- The outcome by cases.
 
 pub data Sound (z : Sizes) (t : List ℕ) (ed : Edit) : Outcome → Type 0 where
