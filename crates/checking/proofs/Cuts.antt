@@ -95,45 +95,51 @@ module _ (p number k : ℕ) (tokens : List ℕ) where
     pub start : SameTo 0 0 d₀ false
     start = record { inside = omega arith; few = omega arith; shallow = omega arith; left = all-left d₀ (cutsFrom 0 0 l) }
 
-    module _ {at n d : ℕ} {a : Bool} (v : SameTo at n d a) where
-      left-as : (x : Cuts) → cutsFrom at 0 (drop at l) ≡ x → rest n d a x ≡ answer
-      left-as x e = ap (rest n d a) (sym e) ∙ v .left
+module _ {p number k : ℕ} {tokens l : List ℕ} {d₀ at n d : ℕ} {a : Bool} (v : SameTo p number k tokens l d₀ at n d a) where
+  abbrev goal : SameCuts
+  goal = answer p number k tokens l d₀
 
-      pub at-end : length l ≤ at → Ends n d a ≡ answer
-      at-end h = sym (none-left n d a) ∙ left-as (cuts []) (cuts-end at l h)
+  abbrev left-of : (n d : ℕ) → Bool → Cuts → SameCuts
+  left-of = rest p number k tokens
 
-      module _ (h : at < length l) where
-        pub at-comment : cut (drop at l) ≡ comment → Ends n d a ≡ answer
-        at-comment e = sym (none-left n d a) ∙ left-as (cuts []) (cuts-comment at l h e)
+  left-as : (x : Cuts) → cutsFrom at 0 (drop at l) ≡ x → left-of n d a x ≡ goal
+  left-as x e = ap (left-of n d a) (sym e) ∙ v .left
 
-        pub at-failure : (f : Failure) → cut (drop at l) ≡ fails f → Differs ≡ answer
-        at-failure f e = left-as (stops (movedBy at f)) (cuts-fails at l h f e)
+  pub at-end : length l ≤ at → Ends n d a ≡ goal
+  at-end h = sym (none-left p number k tokens n d a) ∙ left-as (cuts []) (cuts-end at l h)
 
-        pub past-blank : cut (drop at l) ≡ blank → SameTo (at + 1) n d a
-        past-blank e = record { inside = omega arith; few = omega (arith, v .few); shallow = omega (arith, v .shallow); left = left-as _ (cuts-blank at l h e) }
+  module _ (h : at < length l) where
+    pub at-comment : cut (drop at l) ≡ comment → Ends n d a ≡ goal
+    at-comment e = sym (none-left p number k tokens n d a) ∙ left-as (cuts []) (cuts-comment at l h e)
 
-        module _ (kind size : ℕ) (e : cut (drop at l) ≡ token kind size) where
-          pub token-inside : (0 < size) × (at + size ≤ length l)
-          token-inside = let t = token-at true l at kind size h e in (t .some-bytes, t .in-line)
+    pub at-failure : (f : Failure) → cut (drop at l) ≡ fails f → Differs ≡ goal
+    at-failure f e = left-as (stops (movedBy at f)) (cuts-fails at l h f e)
 
-          abbrev words : List ℕ
-          words = kind ∷ (p + at) ∷ size ∷ number ∷ (at + 1) ∷ []
+    pub past-blank : cut (drop at l) ≡ blank → SameTo p number k tokens l d₀ (at + 1) n d a
+    past-blank e = record { inside = omega arith; few = omega (arith, v .few); shallow = omega (arith, v .shallow); left = left-as _ (cuts-blank at l h e) }
 
-          same-words : (b : Bool) → b ≡ begins words (drop (5 * (k + n)) tokens) → begins (oneToken p number (tokenAt kind at size)) (drop (5 * (k + n)) tokens) ≡ b
-          same-words b q = ap (λ (i : ℕ). begins (kind ∷ (p + at) ∷ size ∷ number ∷ i ∷ []) (drop (5 * (k + n)) tokens)) (sym (add-one at)) ∙ sym q
+    module _ (kind size : ℕ) (e : cut (drop at l) ≡ token kind size) where
+      pub token-inside : (0 < size) × (at + size ≤ length l)
+      token-inside = let t = token-at true l at kind size h e in (t .some-bytes, t .in-line)
 
-          pub other-token : false ≡ begins words (drop (5 * (k + n)) tokens) → Differs ≡ answer
-          other-token q =
-              sym (one-differs n d a (tokenAt kind at size) (same-words false q) (cutsFrom (at + size) 0 (drop (at + size) l)))
-              ∙ left-as (withToken (tokenAt kind at size) (cutsFrom (at + size) 0 (drop (at + size) l))) (cuts-token at l h kind size e)
+      abbrev words : List ℕ
+      words = kind ∷ (p + at) ∷ size ∷ number ∷ (at + 1) ∷ []
 
-          pub past-token : true ≡ begins words (drop (5 * (k + n)) tokens) → (d′ : ℕ) → d′ ≡ depthBy d kind → SameTo (at + size) (n + 1) d′ (eqb kind Implies)
-          past-token q d′ ed =
-              record {
-                inside = token-inside .1;
-                few = omega (arith, v .few, token-inside .0);
-                shallow = omega (arith, v .shallow, ed, depth-by-le d kind, token-inside .0);
-                left = ap (λ (i : ℕ). rest (n + 1) i (eqb kind Implies) (cutsFrom (at + size) 0 (drop (at + size) l))) ed
-                    ∙ sym (one-agrees n d a (tokenAt kind at size) (same-words true q) (cutsFrom (at + size) 0 (drop (at + size) l)))
-                    ∙ left-as (withToken (tokenAt kind at size) (cutsFrom (at + size) 0 (drop (at + size) l))) (cuts-token at l h kind size e);
-              }
+      same-words : (b : Bool) → b ≡ begins words (drop (5 * (k + n)) tokens) → begins (oneToken p number (tokenAt kind at size)) (drop (5 * (k + n)) tokens) ≡ b
+      same-words b q = ap (λ (i : ℕ). begins (kind ∷ (p + at) ∷ size ∷ number ∷ i ∷ []) (drop (5 * (k + n)) tokens)) (sym (add-one at)) ∙ sym q
+
+      pub other-token : false ≡ begins words (drop (5 * (k + n)) tokens) → Differs ≡ goal
+      other-token q =
+          sym (one-differs p number k tokens n d a (tokenAt kind at size) (same-words false q) (cutsFrom (at + size) 0 (drop (at + size) l)))
+          ∙ left-as (withToken (tokenAt kind at size) (cutsFrom (at + size) 0 (drop (at + size) l))) (cuts-token at l h kind size e)
+
+      pub past-token : true ≡ begins words (drop (5 * (k + n)) tokens) → (d′ : ℕ) → d′ ≡ depthBy d kind → SameTo p number k tokens l d₀ (at + size) (n + 1) d′ (eqb kind Implies)
+      past-token q d′ ed =
+          record {
+            inside = token-inside .1;
+            few = omega (arith, v .few, token-inside .0);
+            shallow = omega (arith, v .shallow, ed, depth-by-le d kind, token-inside .0);
+            left = ap (λ (i : ℕ). left-of (n + 1) i (eqb kind Implies) (cutsFrom (at + size) 0 (drop (at + size) l))) ed
+                ∙ sym (one-agrees p number k tokens n d a (tokenAt kind at size) (same-words true q) (cutsFrom (at + size) 0 (drop (at + size) l)))
+                ∙ left-as (withToken (tokenAt kind at size) (cutsFrom (at + size) 0 (drop (at + size) l))) (cuts-token at l h kind size e);
+          }

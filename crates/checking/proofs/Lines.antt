@@ -55,73 +55,79 @@ module _ (t lines tokens : List ℕ) (count total : ℕ) where
       → AgreesTo widths 0 0 0 (record { depth = 0; arrow = false; levels = 0 })
   agrees-start wide long widths h = record { pass = pass-start t false [] [] widths h; left = sym (whole-same lines tokens count total t wide long) }
 
-  module _ {widths : List ℕ} {p m k : ℕ} {s : State} (v : AgreesTo widths p m k s) where
-    abbrev z : rules-line.State
-    z = stateOf s widths
+module _ {t lines tokens : List ℕ} {count total : ℕ} {widths : List ℕ} {p m k : ℕ} {s : State} (v : AgreesTo t lines tokens count total widths p m k s) where
+  abbrev goal : Bool
+  goal = answer t lines tokens count total
 
-    pub other-record : false ≡ begins (lineRecord p k z) (drop (21 * m) lines) → false ≡ answer
-    other-record e = sym (record-other lines tokens count total p m k z (linesOf (drop p t)) (sym e)) ∙ v .left
+  abbrev left-of : (p m k : ℕ) → rules-line.State → List Line → Bool
+  left-of = rest t lines tokens count total
 
-    module _ (h : p < length t) where
-      abbrev line : Line
-      line = take (sizeAt t p) (drop p t)
+  abbrev z : rules-line.State
+  z = stateOf s widths
 
-      abbrev others : List Line
-      others = linesOf (drop (p + sizeAt t p) t)
+  pub other-record : false ≡ begins (lineRecord p k z) (drop (21 * m) lines) → false ≡ goal
+  other-record e = sym (record-other lines tokens count total p m k z (linesOf (drop p t)) (sym e)) ∙ v .left
 
-      left-line : rest p m k z (line ∷ others) ≡ answer
-      left-line = ap (rest p m k z) (sym (lines-at t p h)) ∙ v .left
+  module _ (h : p < length t) where
+    abbrev line : Line
+    line = take (sizeAt t p) (drop p t)
 
-      size-is : length line ≡ sizeAt t p
-      size-is = length-take-le (sizeAt t p) (drop p t) (firstSize-le (drop p t))
+    abbrev others : List Line
+    others = linesOf (drop (p + sizeAt t p) t)
 
-      -- the line x is read from z, and r is the code's answer
-      module _ (x : List ℕ) (here : x ≡ lineAt t p) (r : SameLine) (widths′ : List ℕ)
-          (e : agreedOf r widths′ ≡ agreedIf (begins (tokenWords p (m + 1) (tokensIn (readLine 16 z x))) (drop (5 * k) tokens)) (counted (readLine 16 z x)))
-        where
-          read-as : (y : LineReply) → readLine 16 z x ≡ y → readLine 16 z (content line) ≡ y
-          read-as y q = ap (readLine 16 z) (content-first (drop p t) ∙ sym here) ∙ q
+    left-line : left-of p m k z (line ∷ others) ≡ goal
+    left-line = ap (left-of p m k z) (sym (lines-at t p h)) ∙ v .left
 
-          pub other-line : r ≡ Differs → false ≡ answer
-          other-line q = go (readLine 16 z x) refl (ap (λ (y : SameLine). agreedOf y widths′) (sym q) ∙ e)
-            where
-              go : (y : LineReply) → readLine 16 z x ≡ y → differs ≡ agreedIf (begins (tokenWords p (m + 1) (tokensIn y)) (drop (5 * k) tokens)) (counted y) → false ≡ answer
-              go (lineHalts w) i d = sym (turn-halts lines tokens count total p m k z line others w (read-as (lineHalts w) i)) ∙ left-line
-              go (lineReads ts w) i d = by (begins (tokenWords p (m + 1) ts) (drop (5 * k) tokens)) refl d
-                where
-                  by : (b : Bool) → begins (tokenWords p (m + 1) ts) (drop (5 * k) tokens) ≡ b → differs ≡ agreedIf b (counted (lineReads ts w)) → false ≡ answer
-                  by true j f = let n : _≡_ {A = ℕ} 0 1 = cc in absurd (omega arith)
-                  by false j f = sym (turn-other lines tokens count total p m k z w line others ts (read-as (lineReads ts w) i) j) ∙ left-line
+    size-is : length line ≡ sizeAt t p
+    size-is = length-take-le (sizeAt t p) (drop p t) (firstSize-le (drop p t))
 
-          pub next-line : true ≡ begins (lineRecord p k z) (drop (21 * m) lines) → (n : ℕ) (s′ : State) → r ≡ Agrees n s′ → LevelsWithin r → length widths′ ≡ 16
-              → (q : ℕ) → q ≡ p + sizeAt t p → AgreesTo widths′ q (m + 1) (k + n) s′
-          next-line er n s′ i few wide q at =
-              let y : rules-line.State = stateOf s′ widths′ in
-              let a = agreed-line _ (readLine 16 z x) n y (ap (λ (w : SameLine). agreedOf w widths′) (sym i) ∙ e) in
-              let same : true ≡ begins (tokenWords p (m + 1) (a .ts)) (drop (5 * k) tokens) =
-              a .agree ∙ ap (λ (w : LineReply). begins (tokenWords p (m + 1) (tokensIn w)) (drop (5 * k) tokens)) (a .is) in
-              let turn = turn-same lines tokens count total p m k z y line others (a .ts) (read-as (lineReads (a .ts) y) (a .is)) er same in
-              let byte : q ≡ p + length line = omega (arith, size-is) in
-              record {
-                pass = next-pass t false [] [] (v .pass) h (a .ts) s′ [] [] widths′ n q (ap (readLine 16 z) (sym here) ∙ a .is) (a .size) at refl refl (subst LevelsWithin i few) wide;
-                left = (λ j. rest (byte j) (m + 1) (k + a .size j) y (linesOf (drop (at j) t))) ∙ sym turn ∙ left-line;
-              }
+    -- the line x is read from z, and r is the code's answer
+    module _ (x : List ℕ) (here : x ≡ lineAt t p) (r : SameLine) (widths′ : List ℕ)
+        (e : agreedOf r widths′ ≡ agreedIf (begins (tokenWords p (m + 1) (tokensIn (readLine 16 z x))) (drop (5 * k) tokens)) (counted (readLine 16 z x)))
+      where
+        read-as : (y : LineReply) → readLine 16 z x ≡ y → readLine 16 z (content line) ≡ y
+        read-as y q = ap (readLine 16 z) (content-first (drop p t) ∙ sym here) ∙ q
 
-    -- The end.
-    module _ (h : length t ≤ p) where
-      left-none : rest p m k z [] ≡ answer
-      unfolding linesOf
-      left-none = ap (λ (x : List ℕ). rest p m k z (linesOf x)) (sym (drop-of-length-le t h)) ∙ v .left
+        pub other-line : r ≡ Differs → false ≡ goal
+        other-line q = go (readLine 16 z x) refl (ap (λ (y : SameLine). agreedOf y widths′) (sym q) ∙ e)
+          where
+            go : (y : LineReply) → readLine 16 z x ≡ y → differs ≡ agreedIf (begins (tokenWords p (m + 1) (tokensIn y)) (drop (5 * k) tokens)) (counted y) → false ≡ goal
+            go (lineHalts w) i d = sym (turn-halts lines tokens count total p m k z line others w (read-as (lineHalts w) i)) ∙ left-line
+            go (lineReads ts w) i d = by (begins (tokenWords p (m + 1) ts) (drop (5 * k) tokens)) refl d
+              where
+                by : (b : Bool) → begins (tokenWords p (m + 1) ts) (drop (5 * k) tokens) ≡ b → differs ≡ agreedIf b (counted (lineReads ts w)) → false ≡ goal
+                by true j f = let n : _≡_ {A = ℕ} 0 1 = cc in absurd (omega arith)
+                by false j f = sym (turn-other lines tokens count total p m k z w line others ts (read-as (lineReads ts w) i) j) ∙ left-line
 
-      levels-are : length (z .widths) ≡ s .levels
-      levels-are = length-take-le (s .levels) widths (omega (arith, v .pass .few, v .pass .wide))
+        pub next-line : true ≡ begins (lineRecord p k z) (drop (21 * m) lines) → (n : ℕ) (s′ : State) → r ≡ Agrees n s′ → LevelsWithin r → length widths′ ≡ 16
+            → (q : ℕ) → q ≡ p + sizeAt t p → AgreesTo t lines tokens count total widths′ q (m + 1) (k + n) s′
+        next-line er n s′ i few wide q at =
+            let y : rules-line.State = stateOf s′ widths′ in
+            let a = agreed-line _ (readLine 16 z x) n y (ap (λ (w : SameLine). agreedOf w widths′) (sym i) ∙ e) in
+            let same : true ≡ begins (tokenWords p (m + 1) (a .ts)) (drop (5 * k) tokens) =
+            a .agree ∙ ap (λ (w : LineReply). begins (tokenWords p (m + 1) (tokensIn w)) (drop (5 * k) tokens)) (a .is) in
+            let turn = turn-same lines tokens count total p m k z y line others (a .ts) (read-as (lineReads (a .ts) y) (a .is)) er same in
+            let byte : q ≡ p + length line = omega (arith, size-is) in
+            record {
+              pass = next-pass t false [] [] (v .pass) h (a .ts) s′ [] [] widths′ n q (ap (readLine 16 z) (sym here) ∙ a .is) (a .size) at refl refl (subst LevelsWithin i few) wide;
+              left = (λ j. left-of (byte j) (m + 1) (k + a .size j) y (linesOf (drop (at j) t))) ∙ sym turn ∙ left-line;
+            }
 
-      pub other-count : (m ≡ count → ⊥) → false ≡ answer
-      other-count n = sym (count-other lines tokens count total p m k z (s .levels) levels-are n) ∙ left-none
+  -- The end.
+  module _ (h : length t ≤ p) where
+    left-none : left-of p m k z [] ≡ goal
+    unfolding linesOf
+    left-none = ap (λ (x : List ℕ). left-of p m k z (linesOf x)) (sym (drop-of-length-le t h)) ∙ v .left
 
-      pub other-total : (k + s .levels ≡ total → ⊥) → false ≡ answer
-      other-total n = sym (total-other lines tokens count total p m k z (s .levels) levels-are n) ∙ left-none
+    levels-are : length (z .widths) ≡ s .levels
+    levels-are = length-take-le (s .levels) widths (omega (arith, v .pass .few, v .pass .wide))
 
-      pub end-is : m ≡ count → k + s .levels ≡ total → (r : Bool)
-          → r ≡ (begins (lineRecord p k z) (drop (21 * m) lines) && begins (tokenWords p (m + 1) (dedents (s .levels))) (drop (5 * k) tokens)) → r ≡ answer
-      end-is em ek r e = e ∙ sym (end-decides lines tokens count total p m k z (s .levels) levels-are em ek) ∙ left-none
+    pub other-count : (m ≡ count → ⊥) → false ≡ goal
+    other-count n = sym (count-other lines tokens count total p m k z (s .levels) levels-are n) ∙ left-none
+
+    pub other-total : (k + s .levels ≡ total → ⊥) → false ≡ goal
+    other-total n = sym (total-other lines tokens count total p m k z (s .levels) levels-are n) ∙ left-none
+
+    pub end-is : m ≡ count → k + s .levels ≡ total → (r : Bool)
+        → r ≡ (begins (lineRecord p k z) (drop (21 * m) lines) && begins (tokenWords p (m + 1) (dedents (s .levels))) (drop (5 * k) tokens)) → r ≡ goal
+    end-is em ek r e = e ∙ sym (end-decides lines tokens count total p m k z (s .levels) levels-are em ek) ∙ left-none
