@@ -95,132 +95,132 @@ module _ (rest lines : List ℕ) (base i m b kept : ℕ) (z₀ : rules-line.Stat
     pub low : byteSum (take r (o .entries)) ≤ oldByte b kept (base + q)
     pub here : kept < base + q → (byteSum (take r (o .entries)) ≡ oldByte b kept (base + q)) × (r < length (o .entries))
 
-  module _ {widths : List ℕ} {q c k j : ℕ} {s : State} (v : ComeTo widths q c k j s) where
-    abbrev z : rules-line.State
-    z = stateOf s widths
+module _ {rest lines : List ℕ} {base i m b kept : ℕ} {z₀ : rules-line.State} {widths : List ℕ} {q c k j : ℕ} {s : State} (v : ComeTo rest lines base i m b kept z₀ widths q c k j s) where
+  abbrev z : rules-line.State
+  z = stateOf s widths
 
-    pub grown : GrownTo z₀ q (v .es) z
-    grown = read-grown maxLevels z₀ rest q (v .es) z (v .to)
+  pub grown : GrownTo z₀ q (v .es) z
+  grown = read-grown maxLevels z₀ rest q (v .es) z (v .to)
 
-    levels-few : length (z .widths) ≤ maxLevels
-    levels-few = omega (arith, length-take-le (s .levels) widths (omega (arith, v .few, v .wide)), v .few)
+  levels-few : length (z .widths) ≤ maxLevels
+  levels-few = omega (arith, length-take-le (s .levels) widths (omega (arith, v .few, v .wide)), v .few)
 
-    module _ (h : q < length rest) (r : ℕ) (hr : ComparedWith q j r) (o : Old rest lines base i m b kept z₀) where
-      compared-near : base + q ≤ kept → Compared o q r z
-      compared-near x =
-          record {
-            stop-is = no-stop maxLevels (o .entries) (o .end) (o .ed) (fromByte (o .text) (o .entries) (o .end) (o .reads-are) (o .ed) (o .begins) + q) z (omega (arith, o .base-is, o .kept-is))
-                ∙ sym (stop-near lines r b kept (base + q) z x);
-            low = subst (λ (n : ℕ). byteSum (take n (o .entries)) ≤ oldByte b kept (base + q)) (sym (hr .0 x)) (v .known o .low);
-            here = λ y. absurd (omega arith);
-          }
+  module _ (h : q < length rest) (r : ℕ) (hr : ComparedWith rest lines base i m b kept z₀ q j r) (o : Old rest lines base i m b kept z₀) where
+    compared-near : base + q ≤ kept → Compared rest lines base i m b kept z₀ o q r z
+    compared-near x =
+        record {
+          stop-is = no-stop maxLevels (o .entries) (o .end) (o .ed) (fromByte (o .text) (o .entries) (o .end) (o .reads-are) (o .ed) (o .begins) + q) z (omega (arith, o .base-is, o .kept-is))
+              ∙ sym (stop-near lines r b kept (base + q) z x);
+          low = subst (λ (n : ℕ). byteSum (take n (o .entries)) ≤ oldByte b kept (base + q)) (sym (hr .0 x)) (v .known o .low);
+          here = λ y. absurd (omega arith);
+        }
 
-      compared-far : kept < base + q → Compared o q r z
-      compared-far x =
-          let p : ℕ = fromByte (o .text) (o .entries) (o .end) (o .reads-are) (o .ed) (o .begins) + q in
-          let long : length rest ≡ length (edited (o .text) (o .ed)) - fromByte (o .text) (o .entries) (o .end) (o .reads-are) (o .ed) (o .begins) =
-          ap length (o .rest-is) ∙ length-drop (fromByte (o .text) (o .entries) (o .end) (o .reads-are) (o .ed) (o .begins)) (edited (o .text) (o .ed)) in
-          let w = reread-test (o .text) (o .entries) (o .end) (o .reads-are) (o .ed) (o .begins) q (v .es) z (v .known o .again) (o .order) (o .inside)
-          (omega (arith, o .base-is, o .kept-is)) (omega (arith, o .base-is)) in
-          let start : byteSum (take (w .0) (o .entries)) ≡ oldByte b kept (base + q) = w .2 ∙ omega (arith, o .base-is, o .kept-is, o .b-is) in
-          let e : r ≡ w .0 = found (o .text) (o .entries) (o .end) (o .reads-are) lines m (o .m-is) (o .lines-are) (w .0) j r (oldByte b kept (base + q)) (w .1) start (v .known o .low) (v .old) (hr .1 x) in
-          let le : r ≤ m = omega (arith, w .1, o .m-is) in
-          let sr : byteSum (take r (o .entries)) ≡ oldByte b kept (base + q) = ap (λ (n : ℕ). byteSum (take n (o .entries))) e ∙ start in
-          record {
-            stop-is = w .3 ∙ ap (λ (n : ℕ). sameState z (stateAt (o .entries) (o .end) n)) (sym e)
-                ∙ sameState-words z (stateAt (o .entries) (o .end) r) levels-few (levels-at (o .text) (o .entries) (o .end) (o .reads-are) r)
-                ∙ same-sym (stateWords z) (stateWords (stateAt (o .entries) (o .end) r))
-                ∙ ap (λ (x : List ℕ). same x (stateWords z)) (sym (state-is lines m (o .entries) (o .end) (o .m-is) (o .lines-are) r le))
-                ∙ sym (stop-here lines r b kept (base + q) z x (start-is lines m (o .entries) (o .end) (o .m-is) (o .lines-are) r le ∙ sr));
-            low = omega (arith, sr);
-            here = λ y. (sr, omega (arith, w .1));
-          }
+    compared-far : kept < base + q → Compared rest lines base i m b kept z₀ o q r z
+    compared-far x =
+        let p : ℕ = fromByte (o .text) (o .entries) (o .end) (o .reads-are) (o .ed) (o .begins) + q in
+        let long : length rest ≡ length (edited (o .text) (o .ed)) - fromByte (o .text) (o .entries) (o .end) (o .reads-are) (o .ed) (o .begins) =
+        ap length (o .rest-is) ∙ length-drop (fromByte (o .text) (o .entries) (o .end) (o .reads-are) (o .ed) (o .begins)) (edited (o .text) (o .ed)) in
+        let w = reread-test (o .text) (o .entries) (o .end) (o .reads-are) (o .ed) (o .begins) q (v .es) z (v .known o .again) (o .order) (o .inside)
+        (omega (arith, o .base-is, o .kept-is)) (omega (arith, o .base-is)) in
+        let start : byteSum (take (w .0) (o .entries)) ≡ oldByte b kept (base + q) = w .2 ∙ omega (arith, o .base-is, o .kept-is, o .b-is) in
+        let e : r ≡ w .0 = found (o .text) (o .entries) (o .end) (o .reads-are) lines m (o .m-is) (o .lines-are) (w .0) j r (oldByte b kept (base + q)) (w .1) start (v .known o .low) (v .old) (hr .1 x) in
+        let le : r ≤ m = omega (arith, w .1, o .m-is) in
+        let sr : byteSum (take r (o .entries)) ≡ oldByte b kept (base + q) = ap (λ (n : ℕ). byteSum (take n (o .entries))) e ∙ start in
+        record {
+          stop-is = w .3 ∙ ap (λ (n : ℕ). sameState z (stateAt (o .entries) (o .end) n)) (sym e)
+              ∙ sameState-words z (stateAt (o .entries) (o .end) r) levels-few (levels-at (o .text) (o .entries) (o .end) (o .reads-are) r)
+              ∙ same-sym (stateWords z) (stateWords (stateAt (o .entries) (o .end) r))
+              ∙ ap (λ (x : List ℕ). same x (stateWords z)) (sym (state-is lines m (o .entries) (o .end) (o .m-is) (o .lines-are) r le))
+              ∙ sym (stop-here lines r b kept (base + q) z x (start-is lines m (o .entries) (o .end) (o .m-is) (o .lines-are) r le ∙ sr));
+          low = omega (arith, sr);
+          here = λ y. (sr, omega (arith, w .1));
+        }
 
-      pub compared : Compared o q r z
-      compared =
-          ⊎-elim (λ (x : base + q - kept ≡ 0). compared-near (omega arith)) (λ (x : 0 < base + q - kept). compared-far (omega arith)) (eq-zero-or-pos (base + q - kept))
+    pub compared : Compared rest lines base i m b kept z₀ o q r z
+    compared =
+        ⊎-elim (λ (x : base + q - kept ≡ 0). compared-near (omega arith)) (λ (x : 0 < base + q - kept). compared-far (omega arith)) (eq-zero-or-pos (base + q - kept))
 
-    module _ (h : q < length rest) (r : ℕ) (hr : ComparedWith q j r) (hm : r ≤ m) where
-      -- it stops here
-      pub stopped : stopsAt lines r b kept (base + q) z ≡ true → RereadIs rest lines base i m b kept z₀ (Stops c k q r)
-      stopped e =
-          let x = and-true (ltb kept (base + q)) (eqb (startWord lines r) (oldByte b kept (base + q)) && same (stateIn lines r) (stateWords z)) e in
-          let y = and-true (eqb (startWord lines r) (oldByte b kept (base + q))) (same (stateIn lines r) (stateWords z)) (x .1) in
-          let far : kept < base + q = ltb-true kept (base + q) (x .0) in (
-            lines-read rest z₀ q q c k (v .es) z (v .to) (v .count) (v .sum) refl,
-            (h, (hm, (far, eqb-true (startWord lines r) (oldByte b kept (base + q)) (y .0)))),
-            λ o.
-                let d = compared h r hr o in
-                let g = reread-stop (o .text) (o .entries) (o .end) (o .reads-are) (o .ed) (o .begins) q (v .es) z (v .known o .again) (d .stop-is ∙ e) in
-                let n = d .here far in
-                let kept-are = kept-from (o .text) (o .entries) (o .end) (o .reads-are) (o .ed) (fromByte (o .text) (o .entries) (o .end) (o .reads-are) (o .ed) (o .begins) + q) r (n .1) (n .0 ∙ omega (arith, o .base-is, o .kept-is, o .b-is)) in (
-                  g .0 ∙ (λ a. reads (take (sym (o .i-is) a) (o .entries) ++ (v .es ++ kept-are a)) (o .end)),
-                  g .1 ∙ v .count,
-                  n .0,
-                  n .1,
-                ),
-          )
-
-      -- the next line is read
-      pub next-come : stopsAt lines r b kept (base + q) z ≡ false → (widths′ : List ℕ) (q′ n : ℕ) (s′ : State) (ts : List Token)
-          → readLine 16 z (lineAt rest q) ≡ lineReads ts (stateOf s′ widths′) → n ≡ length ts → q′ ≡ q + sizeAt rest q → s′ .levels ≤ 16 → length widths′ ≡ 16
-          → ComeTo widths′ q′ (c + 1) (k + n) r s′
-      unfolding tokenSum
-      next-come e widths′ q′ n s′ ts l hn hq few′ wide′ =
-          let x : Entry = entry z (sizeAt rest q) ts in
-          record {
-            es = v .es ++ (x ∷ []);
-            to = subst (λ (y : ℕ). ReadTo maxLevels z₀ rest y (v .es ++ (x ∷ [])) (stateOf s′ widths′)) (sym hq) (read-line maxLevels z₀ rest q (v .es) z (v .to) ts (stateOf s′ widths′) h l);
-            inside = omega (arith, firstSize-le (drop q rest), length-drop q rest);
-            count = omega (arith, length-append (v .es) (x ∷ []), v .count);
-            sum = omega (arith, tokenSum-append (v .es) (x ∷ []), v .sum);
-            few = few′;
-            wide = wide′;
-            old = hm;
-            known = λ o.
-                let d = compared h r hr o in
-                let u : List ℕ = drop (fromByte (o .text) (o .entries) (o .end) (o .reads-are) (o .ed) (o .begins)) (edited (o .text) (o .ed)) in
-                let next = reread-line (o .text) (o .entries) (o .end) (o .reads-are) (o .ed) (o .begins) q (v .es) z (v .known o .again) ts (stateOf s′ widths′)
-                (subst (λ (y : List ℕ). q < length y) (o .rest-is) h) (d .stop-is ∙ e) (ap (λ (y : List ℕ). readLine 16 z (lineAt y q)) (sym (o .rest-is)) ∙ l) in
-                let size : sizeAt u q ≡ sizeAt rest q = ap (λ (y : List ℕ). sizeAt y q) (sym (o .rest-is)) in
-                let moved = subst (λ (n : ℕ). RereadTo (o .text) (o .entries) (o .end) (o .reads-are) (o .ed) (o .begins) (q + n) (v .es ++ (entry z n ts ∷ [])) (stateOf s′ widths′)) size next in
-                record {
-                  again = subst (λ (n : ℕ). RereadTo (o .text) (o .entries) (o .end) (o .reads-are) (o .ed) (o .begins) n (v .es ++ (x ∷ [])) (stateOf s′ widths′)) (sym hq) moved;
-                  low = omega (arith, d .low);
-                };
-          }
-
-      -- it does not
-      stuck : (x : Halt) → readLine 16 z (lineAt rest q) ≡ lineHalts x → (o : Old rest lines base i m b kept z₀)
-          → (readFrom maxLevels rules-line.initial (linesOf (edited (o .text) (o .ed))) ≡ halts (take i (o .entries) ++ v .es) x)
-          × (byteSum (take i (o .entries) ++ v .es) ≡ base + q) × (suc (length (take i (o .entries) ++ v .es)) ≡ i + c + 1)
-      stuck x l o =
-          let n = kept-length maxLevels (o .text) (o .entries) (o .end) (o .reads-are) (o .ed) (o .begins) in (
-            reread-stuck (o .text) (o .entries) (o .end) (o .reads-are) (o .ed) (o .begins) q (v .es) z (v .known o .again) x
-                (subst (λ (y : List ℕ). q < length y) (o .rest-is) h) (ap (λ (y : List ℕ). readLine 16 z (lineAt y q)) (sym (o .rest-is)) ∙ l)
-                ∙ ap (λ (n : ℕ). halts (take n (o .entries) ++ v .es) x) (sym (o .i-is)),
-            byteSum-append (take i (o .entries)) (v .es) ∙ omega (arith, v .to .bytes, o .base-is, ap (λ (n : ℕ). byteSum (take n (o .entries))) (o .i-is)),
-            omega (arith, length-append (take i (o .entries)) (v .es), v .count, n, o .i-is, ap (λ (n : ℕ). length (take n (o .entries))) (o .i-is)),
-          )
-
-      pub failed-come : (f : Failure) (w : FailureRecord) → readLine 16 z (lineAt rest q) ≡ lineHalts (failed f) → w ≡ recordIn (failureRecord (base + q) (i + c + 1) f)
-          → RereadIs rest lines base i m b kept z₀ (Fails w)
-      failed-come f w l e o =
-          let x = stuck (failed f) l o in
-          (take i (o .entries) ++ v .es, f, x .0, e ∙ (λ a. recordIn (failureRecord (sym (x .1) a) (sym (x .2) a) f)))
-
-      pub deep-come : readLine 16 z (lineAt rest q) ≡ lineHalts overLimit → RereadIs rest lines base i m b kept z₀ (TooDeep (i + c + 1))
-      deep-come l o =
-          let x = stuck overLimit l o in
-          (take i (o .entries) ++ v .es, x .0, sym (x .2))
-
-    -- it comes to the end
-    pub ended : length rest ≤ q → RereadIs rest lines base i m b kept z₀ (Ends c k (s .levels))
-    ended h =
-        let e : q ≡ length rest = omega (arith, v .inside) in (
-          lines-read rest z₀ q (length rest) c k (v .es) z (v .to) (v .count) (v .sum) e,
-          length-take-le (s .levels) widths (omega (arith, v .few, v .wide)),
+  module _ (h : q < length rest) (r : ℕ) (hr : ComparedWith rest lines base i m b kept z₀ q j r) (hm : r ≤ m) where
+    -- it stops here
+    pub stopped : stopsAt lines r b kept (base + q) z ≡ true → RereadIs rest lines base i m b kept z₀ (Stops c k q r)
+    stopped e =
+        let x = and-true (ltb kept (base + q)) (eqb (startWord lines r) (oldByte b kept (base + q)) && same (stateIn lines r) (stateWords z)) e in
+        let y = and-true (eqb (startWord lines r) (oldByte b kept (base + q))) (same (stateIn lines r) (stateWords z)) (x .1) in
+        let far : kept < base + q = ltb-true kept (base + q) (x .0) in (
+          lines-read rest z₀ q q c k (v .es) z (v .to) (v .count) (v .sum) refl,
+          (h, (hm, (far, eqb-true (startWord lines r) (oldByte b kept (base + q)) (y .0)))),
           λ o.
-              let g = reread-end (o .text) (o .entries) (o .end) (o .reads-are) (o .ed) (o .begins) q (v .es) z (v .known o .again) (subst (λ (y : List ℕ). length y ≤ q) (o .rest-is) h) in
-              (g .0 ∙ ap (λ (n : ℕ). reads (take n (o .entries) ++ v .es) z) (sym (o .i-is)), g .1 ∙ v .count),
+              let d = compared h r hr o in
+              let g = reread-stop (o .text) (o .entries) (o .end) (o .reads-are) (o .ed) (o .begins) q (v .es) z (v .known o .again) (d .stop-is ∙ e) in
+              let n = d .here far in
+              let kept-are = kept-from (o .text) (o .entries) (o .end) (o .reads-are) (o .ed) (fromByte (o .text) (o .entries) (o .end) (o .reads-are) (o .ed) (o .begins) + q) r (n .1) (n .0 ∙ omega (arith, o .base-is, o .kept-is, o .b-is)) in (
+                g .0 ∙ (λ a. reads (take (sym (o .i-is) a) (o .entries) ++ (v .es ++ kept-are a)) (o .end)),
+                g .1 ∙ v .count,
+                n .0,
+                n .1,
+              ),
         )
+
+    -- the next line is read
+    pub next-come : stopsAt lines r b kept (base + q) z ≡ false → (widths′ : List ℕ) (q′ n : ℕ) (s′ : State) (ts : List Token)
+        → readLine 16 z (lineAt rest q) ≡ lineReads ts (stateOf s′ widths′) → n ≡ length ts → q′ ≡ q + sizeAt rest q → s′ .levels ≤ 16 → length widths′ ≡ 16
+        → ComeTo rest lines base i m b kept z₀ widths′ q′ (c + 1) (k + n) r s′
+    unfolding tokenSum
+    next-come e widths′ q′ n s′ ts l hn hq few′ wide′ =
+        let x : Entry = entry z (sizeAt rest q) ts in
+        record {
+          es = v .es ++ (x ∷ []);
+          to = subst (λ (y : ℕ). ReadTo maxLevels z₀ rest y (v .es ++ (x ∷ [])) (stateOf s′ widths′)) (sym hq) (read-line maxLevels z₀ rest q (v .es) z (v .to) ts (stateOf s′ widths′) h l);
+          inside = omega (arith, firstSize-le (drop q rest), length-drop q rest);
+          count = omega (arith, length-append (v .es) (x ∷ []), v .count);
+          sum = omega (arith, tokenSum-append (v .es) (x ∷ []), v .sum);
+          few = few′;
+          wide = wide′;
+          old = hm;
+          known = λ o.
+              let d = compared h r hr o in
+              let u : List ℕ = drop (fromByte (o .text) (o .entries) (o .end) (o .reads-are) (o .ed) (o .begins)) (edited (o .text) (o .ed)) in
+              let next = reread-line (o .text) (o .entries) (o .end) (o .reads-are) (o .ed) (o .begins) q (v .es) z (v .known o .again) ts (stateOf s′ widths′)
+              (subst (λ (y : List ℕ). q < length y) (o .rest-is) h) (d .stop-is ∙ e) (ap (λ (y : List ℕ). readLine 16 z (lineAt y q)) (sym (o .rest-is)) ∙ l) in
+              let size : sizeAt u q ≡ sizeAt rest q = ap (λ (y : List ℕ). sizeAt y q) (sym (o .rest-is)) in
+              let moved = subst (λ (n : ℕ). RereadTo (o .text) (o .entries) (o .end) (o .reads-are) (o .ed) (o .begins) (q + n) (v .es ++ (entry z n ts ∷ [])) (stateOf s′ widths′)) size next in
+              record {
+                again = subst (λ (n : ℕ). RereadTo (o .text) (o .entries) (o .end) (o .reads-are) (o .ed) (o .begins) n (v .es ++ (x ∷ [])) (stateOf s′ widths′)) (sym hq) moved;
+                low = omega (arith, d .low);
+              };
+        }
+
+    -- it does not
+    stuck : (x : Halt) → readLine 16 z (lineAt rest q) ≡ lineHalts x → (o : Old rest lines base i m b kept z₀)
+        → (readFrom maxLevels rules-line.initial (linesOf (edited (o .text) (o .ed))) ≡ halts (take i (o .entries) ++ v .es) x)
+        × (byteSum (take i (o .entries) ++ v .es) ≡ base + q) × (suc (length (take i (o .entries) ++ v .es)) ≡ i + c + 1)
+    stuck x l o =
+        let n = kept-length maxLevels (o .text) (o .entries) (o .end) (o .reads-are) (o .ed) (o .begins) in (
+          reread-stuck (o .text) (o .entries) (o .end) (o .reads-are) (o .ed) (o .begins) q (v .es) z (v .known o .again) x
+              (subst (λ (y : List ℕ). q < length y) (o .rest-is) h) (ap (λ (y : List ℕ). readLine 16 z (lineAt y q)) (sym (o .rest-is)) ∙ l)
+              ∙ ap (λ (n : ℕ). halts (take n (o .entries) ++ v .es) x) (sym (o .i-is)),
+          byteSum-append (take i (o .entries)) (v .es) ∙ omega (arith, v .to .bytes, o .base-is, ap (λ (n : ℕ). byteSum (take n (o .entries))) (o .i-is)),
+          omega (arith, length-append (take i (o .entries)) (v .es), v .count, n, o .i-is, ap (λ (n : ℕ). length (take n (o .entries))) (o .i-is)),
+        )
+
+    pub failed-come : (f : Failure) (w : FailureRecord) → readLine 16 z (lineAt rest q) ≡ lineHalts (failed f) → w ≡ recordIn (failureRecord (base + q) (i + c + 1) f)
+        → RereadIs rest lines base i m b kept z₀ (Fails w)
+    failed-come f w l e o =
+        let x = stuck (failed f) l o in
+        (take i (o .entries) ++ v .es, f, x .0, e ∙ (λ a. recordIn (failureRecord (sym (x .1) a) (sym (x .2) a) f)))
+
+    pub deep-come : readLine 16 z (lineAt rest q) ≡ lineHalts overLimit → RereadIs rest lines base i m b kept z₀ (TooDeep (i + c + 1))
+    deep-come l o =
+        let x = stuck overLimit l o in
+        (take i (o .entries) ++ v .es, x .0, sym (x .2))
+
+  -- it comes to the end
+  pub ended : length rest ≤ q → RereadIs rest lines base i m b kept z₀ (Ends c k (s .levels))
+  ended h =
+      let e : q ≡ length rest = omega (arith, v .inside) in (
+        lines-read rest z₀ q (length rest) c k (v .es) z (v .to) (v .count) (v .sum) e,
+        length-take-le (s .levels) widths (omega (arith, v .few, v .wide)),
+        λ o.
+            let g = reread-end (o .text) (o .entries) (o .end) (o .reads-are) (o .ed) (o .begins) q (v .es) z (v .known o .again) (subst (λ (y : List ℕ). length y ≤ q) (o .rest-is) h) in
+            (g .0 ∙ ap (λ (n : ℕ). reads (take n (o .entries) ++ v .es) z) (sym (o .i-is)), g .1 ∙ v .count),
+      )

@@ -156,76 +156,76 @@ module _ (rest lines₀ tokens₀ : List ℕ) (base i k₀ count : ℕ) (z₀ : 
         token-words = refl;
       }
 
-  module _ {lines tokens widths : List ℕ} {q c k : ℕ} {s : State} (v : WrittenTo lines tokens widths q c k s) where
-    abbrev z : rules-line.State
-    z = stateOf s widths
+module _ {rest lines₀ tokens₀ : List ℕ} {base i k₀ count : ℕ} {z₀ : rules-line.State} {lines tokens widths : List ℕ} {q c k : ℕ} {s : State} (v : WrittenTo rest lines₀ tokens₀ base i k₀ count z₀ lines tokens widths q c k s) where
+  abbrev z : rules-line.State
+  z = stateOf s widths
 
-    pub grows : GrownTo z₀ q (v .es) z
-    grows = read-grown maxLevels z₀ rest q (v .es) z (v .to)
+  pub grows : GrownTo z₀ q (v .es) z
+  grows = read-grown maxLevels z₀ rest q (v .es) z (v .to)
 
-    pub lines-kept : length lines ≡ length lines₀
-    lines-kept = ap length (v .line-words) ∙ length-sets lines₀ (21 * i) (lineRecords base k₀ (v .es))
+  pub lines-kept : length lines ≡ length lines₀
+  lines-kept = ap length (v .line-words) ∙ length-sets lines₀ (21 * i) (lineRecords base k₀ (v .es))
 
-    pub tokens-kept : length tokens ≡ length tokens₀
-    tokens-kept = ap length (v .token-words) ∙ length-sets tokens₀ (5 * k₀) (tokenRecords base (i + 1) (v .es))
+  pub tokens-kept : length tokens ≡ length tokens₀
+  tokens-kept = ap length (v .token-words) ∙ length-sets tokens₀ (5 * k₀) (tokenRecords base (i + 1) (v .es))
 
-    -- the next line reads, and there is room for it
-    pub record Next : Type 0 where
-      pub some : q < length rest
-      pub ts : List Token
-      pub mid : rules-line.State
-      pub line-is : readLine maxLevels z (lineAt rest q) ≡ lineReads ts mid
-      pub line-room : 21 * (i + c) + 21 ≤ length lines
-      pub token-room : 5 * (k + length ts) ≤ length tokens
-      pub small : k + length ts ≤ 3_000_000
+  -- the next line reads, and there is room for it
+  pub record Next : Type 0 where
+    pub some : q < length rest
+    pub ts : List Token
+    pub mid : rules-line.State
+    pub line-is : readLine maxLevels z (lineAt rest q) ≡ lineReads ts mid
+    pub line-room : 21 * (i + c) + 21 ≤ length lines
+    pub token-room : 5 * (k + length ts) ≤ length tokens
+    pub small : k + length ts ≤ 3_000_000
 
-    pub next-of : c < count → (x : Reading) → readFirst count z₀ rest ≡ x → RoomFrom x count i k₀ (length lines₀) (length tokens₀) → Next
-    unfolding tokenSum
-    next-of less (halts es h) e r = absurd r
-    next-of less (reads all end) e r =
-        let n = next-line rest z₀ q c count (v .es) z (v .to) (v .number) less all end e (r .0) in
-        let sums : tokenSum all ≡ tokenSum (v .es) + (length (n .ts) + tokenSum (n .rest)) =
-        ap tokenSum (n .all-are) ∙ tokenSum-append (v .es) (entry z (sizeAt rest q) (n .ts) ∷ n .rest) in
-        record {
-          some = n .some;
-          ts = n .ts;
-          mid = n .mid;
-          line-is = n .line-is;
-          line-room = omega (arith, r .1 .0, lines-kept);
-          token-room = omega (arith, r .1 .1 .0, tokens-kept, v .sum);
-          small = omega (arith, r .1 .1 .1, v .sum);
-        }
+  pub next-of : c < count → (x : Reading) → readFirst count z₀ rest ≡ x → RoomFrom x count i k₀ (length lines₀) (length tokens₀) → Next
+  unfolding tokenSum
+  next-of less (halts es h) e r = absurd r
+  next-of less (reads all end) e r =
+      let n = next-line rest z₀ q c count (v .es) z (v .to) (v .number) less all end e (r .0) in
+      let sums : tokenSum all ≡ tokenSum (v .es) + (length (n .ts) + tokenSum (n .rest)) =
+      ap tokenSum (n .all-are) ∙ tokenSum-append (v .es) (entry z (sizeAt rest q) (n .ts) ∷ n .rest) in
+      record {
+        some = n .some;
+        ts = n .ts;
+        mid = n .mid;
+        line-is = n .line-is;
+        line-room = omega (arith, r .1 .0, lines-kept);
+        token-room = omega (arith, r .1 .1 .0, tokens-kept, v .sum);
+        small = omega (arith, r .1 .1 .1, v .sum);
+      }
 
-    -- the next line is written
-    pub written-more : c < count → q < length rest → (lines′ tokens′ widths′ : List ℕ) (q′ n : ℕ) (s′ : State) (ts : List Token)
-        → readLine 16 z (lineAt rest q) ≡ lineReads ts (stateOf s′ widths′) → n ≡ length ts → q′ ≡ q + sizeAt rest q → s′ .levels ≤ 16 → length widths′ ≡ 16
-        → lines′ ≡ sets lines (21 * (i + c)) (lineRecord (base + q) k z) → tokens′ ≡ sets tokens (5 * k) (tokenWords (base + q) (i + c + 1) (line-cuts.tokensIn (readLine 16 z (lineAt rest q))))
-        → WrittenTo lines′ tokens′ widths′ q′ (c + 1) (k + n) s′
-    unfolding tokenSum
-    written-more less h lines′ tokens′ widths′ q′ n s′ ts l hn hq few′ wide′ el et =
-        let x : Entry = entry z (sizeAt rest q) ts in
-        let hp : base + byteSum (v .es) ≡ base + q = ap (λ (n : ℕ). base + n) (v .to .bytes) in
-        record {
-          es = v .es ++ (x ∷ []);
-          to = subst (λ (y : ℕ). ReadTo maxLevels z₀ rest y (v .es ++ (x ∷ [])) (stateOf s′ widths′)) (sym hq) (read-line maxLevels z₀ rest q (v .es) z (v .to) ts (stateOf s′ widths′) h l);
-          inside = omega (arith, firstSize-le (drop q rest), length-drop q rest);
-          number = omega (arith, length-append (v .es) (x ∷ []), v .number);
-          within = omega arith;
-          sum = omega (arith, tokenSum-append (v .es) (x ∷ []), v .sum);
-          few = few′;
-          wide = wide′;
-          line-words = more-lines base i k₀ (v .es) x c (base + q) k (v .number) hp (v .sum) lines₀ lines lines′ (v .line-words) el;
-          token-words = more-tokens base i k₀ (v .es) x c (base + q) k (v .number) hp (v .sum) tokens₀ tokens tokens′ (v .token-words)
-              (et ∙ ap (λ (y : LineReply). sets tokens (5 * k) (tokenWords (base + q) (i + c + 1) (line-cuts.tokensIn y))) l);
-        }
+  -- the next line is written
+  pub written-more : c < count → q < length rest → (lines′ tokens′ widths′ : List ℕ) (q′ n : ℕ) (s′ : State) (ts : List Token)
+      → readLine 16 z (lineAt rest q) ≡ lineReads ts (stateOf s′ widths′) → n ≡ length ts → q′ ≡ q + sizeAt rest q → s′ .levels ≤ 16 → length widths′ ≡ 16
+      → lines′ ≡ sets lines (21 * (i + c)) (lineRecord (base + q) k z) → tokens′ ≡ sets tokens (5 * k) (tokenWords (base + q) (i + c + 1) (line-cuts.tokensIn (readLine 16 z (lineAt rest q))))
+      → WrittenTo rest lines₀ tokens₀ base i k₀ count z₀ lines′ tokens′ widths′ q′ (c + 1) (k + n) s′
+  unfolding tokenSum
+  written-more less h lines′ tokens′ widths′ q′ n s′ ts l hn hq few′ wide′ el et =
+      let x : Entry = entry z (sizeAt rest q) ts in
+      let hp : base + byteSum (v .es) ≡ base + q = ap (λ (n : ℕ). base + n) (v .to .bytes) in
+      record {
+        es = v .es ++ (x ∷ []);
+        to = subst (λ (y : ℕ). ReadTo maxLevels z₀ rest y (v .es ++ (x ∷ [])) (stateOf s′ widths′)) (sym hq) (read-line maxLevels z₀ rest q (v .es) z (v .to) ts (stateOf s′ widths′) h l);
+        inside = omega (arith, firstSize-le (drop q rest), length-drop q rest);
+        number = omega (arith, length-append (v .es) (x ∷ []), v .number);
+        within = omega arith;
+        sum = omega (arith, tokenSum-append (v .es) (x ∷ []), v .sum);
+        few = few′;
+        wide = wide′;
+        line-words = more-lines base i k₀ (v .es) x c (base + q) k (v .number) hp (v .sum) lines₀ lines lines′ (v .line-words) el;
+        token-words = more-tokens base i k₀ (v .es) x c (base + q) k (v .number) hp (v .sum) tokens₀ tokens tokens′ (v .token-words)
+            (et ∙ ap (λ (y : LineReply). sets tokens (5 * k) (tokenWords (base + q) (i + c + 1) (line-cuts.tokensIn y))) l);
+      }
 
-    -- all are written
-    pub all-written : count ≤ c → Reaches (readFirst count z₀ rest) z × ((lines ≡ sets lines₀ (21 * i) (lineRecords base k₀ (linesRead (readFirst count z₀ rest))))
-        × (tokens ≡ sets tokens₀ (5 * k₀) (tokenRecords base (i + 1) (linesRead (readFirst count z₀ rest)))))
-    unfolding linesRead
-    all-written h =
-        let e : readFirst count z₀ rest ≡ reads (v .es) z = first-lines rest z₀ q count (v .es) z (v .to) (omega (arith, v .number, v .within)) in
-        rw e (refl, (v .line-words, v .token-words))
+  -- all are written
+  pub all-written : count ≤ c → Reaches (readFirst count z₀ rest) z × ((lines ≡ sets lines₀ (21 * i) (lineRecords base k₀ (linesRead (readFirst count z₀ rest))))
+      × (tokens ≡ sets tokens₀ (5 * k₀) (tokenRecords base (i + 1) (linesRead (readFirst count z₀ rest)))))
+  unfolding linesRead
+  all-written h =
+      let e : readFirst count z₀ rest ≡ reads (v .es) z = first-lines rest z₀ q count (v .es) z (v .to) (omega (arith, v .number, v .within)) in
+      rw e (refl, (v .line-words, v .token-words))
 
 -- a line that reads does not halt
 pub not-both : {x : LineReply} {ts : List Token} {z : rules-line.State} {h : Halt} → x ≡ lineReads ts z → x ≡ lineHalts h → ⊥

@@ -1,16 +1,20 @@
 -- `rereading::reread_lines` meets its contract. So far c lines are read again, and none is a stop.
 -- Assumes nothing.
-use Prim.Native.Nat.{ℕ, _+_, _-_, _*_, _≤_, _<_}
-use mathlib.Core.Path.{_≡_, refl, sym, ap, subst, _∙_}
-use mathlib.Core.Bool.{false, false≢true}
+use Prim.Native.Nat.{ℕ, _+_, _-_, _≤_, _<_}
+use mathlib.Core.Path.{_≡_, refl, sym, subst, _∙_}
+use mathlib.Core.Bool.{false≢true}
 use mathlib.Core.List.{List}
 use native.Mathlib.Omega.{arith}
-use lib.ListN.{length, take, drop, length-drop}
+use lib.ListN.{length, drop, length-drop}
 use lib.Seq.{length-take-le}
 use borrow.Author.Needs.{needs}
+use Rattle.rules.specs.Line.{readLine}
 use Rattle.rules.proofs.LoopLaws.{lineAt, sizeAt}
-use Rattle.rules.proofs.LineLaws.{firstSize-some, firstSize-le}
+use Rattle.rules.proofs.LineLaws.{firstSize-some}
+use Rattle.line.specs.declared.State.{State}
 use Rattle.line.specs.States.{stateOf}
+use Rattle.reading.specs.declared.Step.{Step}
+use Rattle.reading.specs.declared.Step.the-variants as step
 use Rattle.reading.specs.Steps.{StepIs}
 use Rattle.rereading.proofs.Rereads.{ComeTo, come-start, grown, stopped, next-come, failed-come, deep-come, ended}
 use Rattle.rereading.proofs.reread_lines.Statement.{statement}
@@ -22,42 +26,105 @@ Inv-loop class reach index signs keywords rest lines base i m b kept widths₀ n
 abbrev μ-loop : tie.MeasureT-loop
 μ-loop class reach index signs keywords rest lines base i m b kept widths₀ no-lines₀ no-tokens₀ q₀ c₀ k₀ j₀ s₀ widths no-lines no-tokens q c k j s = length rest - q
 
+-- The loop, with what the function was called with.
+module _ (l : tie.At-loop Inv-loop μ-loop) where
+  abbrev start : tie.Start Inv-loop μ-loop
+  start = l .before .before .before .before
+
+  abbrev rest : List ℕ
+  rest = start .args .rest .now
+
+  abbrev Come : List ℕ → ℕ → ℕ → ℕ → ℕ → State → Type 0
+  Come = let a = start .args in ComeTo rest (a .lines .now) (a .base) (a .i) (a .m) (a .b) (a .kept) (stateOf (a .first) (a .widths .now))
+
+  abbrev so-far : Come (l .loop .widths) (l .loop .q) (l .loop .c) (l .loop .k) (l .loop .j) (l .loop .s)
+  so-far = l .loop .inv .1
+
+  few-bytes : start .args .base + length rest ≤ 1_048_576
+  few-bytes = start .pre .1 .1 .1 .1 .1 .0 .0
+
+  far : (start .args .base + l .loop .q ≤ 1_048_576) × (start .args .i + l .loop .c ≤ 1_048_576) × (l .loop .s .depth ≤ 1_048_576)
+  far =
+      let p = start .pre .1 .1 .1 .1 .1 in
+      let at : start .args .base + l .loop .q ≤ 1_048_576 = omega (arith, few-bytes, so-far .inside) in
+      (at, omega (arith, grown so-far .lines, so-far .count, p .0 .1 .0), omega (arith, grown so-far .depth, p .1 .1 .0))
+
+  same-widths : length (l .loop .widths) ≡ length (start .args .widths .now)
+  same-widths = so-far .wide ∙ sym (start .pre .1 .1 .1 .1 .1 .1 .1 .1 .1)
+
+-- The place after the next line, which is no stop.
+module _ (n : tie.After-next-line Inv-loop μ-loop) where
+  abbrev goes-on : tie.Else1 Inv-loop μ-loop
+  goes-on = n .before .before .before .before
+
+  abbrev compared : tie.After-old-line Inv-loop μ-loop
+  compared = goes-on .before .before .before
+
+  abbrev here : tie.At-loop Inv-loop μ-loop
+  here = compared .before .before
+
+  abbrev more : here .loop .q < length (rest here)
+  more = compared .before .loop-test .taken
+
+  abbrev widths-now : List ℕ
+  widths-now = n .next-line .last .1 .1 .1 .1 .1 .1 .1 .1 .1 .1 .1 .1 .1 .0
+
+  kept-wide : length widths-now ≡ length (here .loop .widths)
+  kept-wide = n .next-line .kept .1 .1 .1 .1 .1 .1 .1 .1 .1 .1 .1 .1 .1 .0
+
+  abbrev Gave : Step → Type 0
+  Gave = let a = start here .args in let x = here .loop in StepIs widths-now (a .base + x .q) (a .i + x .c + 1) (x .q + sizeAt (rest here) (x .q)) (readLine 16 (stateOf (x .s) (x .widths)) (lineAt (rest here) (x .q)))
+
+  gave : (r : Step) → n .next-line .result ≡ r → Gave r
+  gave r e = subst Gave e (n .next-line .ensures .0)
+
+  next : (q i : ℕ) (s : State) → n .next-line .result ≡ step.Reads q i s → Come here widths-now q (here .loop .c + 1) (here .loop .k + i) (compared .old-line .result) s
+  next q i s e =
+      let x = gave (step.Reads q i s) e in
+      let old = compared .old-line .ensures in
+      next-come (so-far here) more _ (old .0) (old .1) (sym (goes-on .before .stops-at .ensures) ∙ goes-on .if1 .left) _ _ _ _ (x .0) (x .1) (x .2) (x .3) (x .4) (kept-wide ∙ so-far here .wide)
+
+abbrev read-at : tie.After-known-told Inv-loop μ-loop → tie.After-next-line Inv-loop μ-loop
+read-at c = c .before .before .before .before .before .before .before
+
+abbrev failed-at : tie.After-known-told2 Inv-loop μ-loop → tie.After-next-line Inv-loop μ-loop
+failed-at c = c .before .before .before .before .before .before .before
+
+abbrev deep-at : tie.After-enum-told Inv-loop μ-loop → tie.After-next-line Inv-loop μ-loop
+deep-at c = c .before .before .before .before .before .before
+
 loop-holds : tie.Need-loop-holds Inv-loop μ-loop
 loop-holds c =
-    let p = c .before .before .before .pre in
-    let a = c .before .before .before .args in
-    ((refl, refl), come-start (a .rest .now) (a .lines .now) (a .base) (a .i) (a .m) (a .b) (a .kept) (stateOf (a .first) (a .widths .now)) (a .widths .now) (a .first) refl (p .1 .1 .1 .1 .1 .1 .1 .1 .0) (p .1 .1 .1 .1 .1 .1 .1 .1 .1) (p .1 .1 .1 .1 .1 .0 .1 .1 .0))
+    let s = c .before .before .before in
+    let p = s .pre .1 .1 .1 .1 .1 in
+    let a = s .args in
+    ((refl, refl), come-start (a .rest .now) (a .lines .now) (a .base) (a .i) (a .m) (a .b) (a .kept) (stateOf (a .first) (a .widths .now)) (a .widths .now) (a .first) refl (p .1 .1 .1 .0) (p .1 .1 .1 .1) (p .0 .1 .1 .0))
 
 add-old-line : tie.Need-add-old-line Inv-loop μ-loop
-add-old-line c =
-    let v = c .before .loop .inv .1 in
-    omega (arith, c .before .before .before .before .before .pre .1 .1 .1 .1 .1 .0 .0, v .inside)
+add-old-line c = omega (arith, far (c .before))
 
 old-line-requires : tie.Need-old-line-requires Inv-loop μ-loop
 old-line-requires c κs =
-    let p = c .before .before .before .before .before .pre in
-    let v = c .before .loop .inv .1 in
-    ((v .old, p .1 .1 .1 .1 .1 .1 .0), (p .1 .1 .1 .1 .1 .0 .1 .1 .1, omega (arith, p .1 .1 .1 .1 .1 .0 .0, v .inside)))
+    let p = start (c .before) .pre .1 .1 .1 .1 .1 in
+    ((so-far (c .before) .old, p .1 .0), (p .0 .1 .1 .1, omega (arith, far (c .before))))
 
 add-stops-at : tie.Need-add-stops-at Inv-loop μ-loop
-add-stops-at c =
-    let v = c .before .before .loop .inv .1 in
-    omega (arith, c .before .before .before .before .before .before .pre .1 .1 .1 .1 .1 .0 .0, v .inside)
+add-stops-at c = omega (arith, far (c .before .before))
 
 stops-at-requires : tie.Need-stops-at-requires Inv-loop μ-loop
 stops-at-requires c κs =
-    let p = c .before .before .before .before .before .before .before .pre in
-    let v = c .before .before .before .loop .inv .1 in
-    ((v .wide, (v .few, (omega (arith, c .before .old-line .ensures .1, p .1 .1 .1 .1 .1 .1 .0 .0), omega (arith, c .before .old-line .ensures .1, p .1 .1 .1 .1 .1 .1 .0 .1)))), (p .1 .1 .1 .1 .1 .0 .1 .1 .1, omega (arith, p .1 .1 .1 .1 .1 .0 .0, v .inside)))
+    let l = c .before .before .before in
+    let p = start l .pre .1 .1 .1 .1 .1 in
+    let old = c .before .old-line .ensures .1 in
+    ((so-far l .wide, (so-far l .few, (omega (arith, old, p .1 .0 .0), omega (arith, old, p .1 .0 .1)))), (p .0 .1 .1 .1, omega (arith, far l)))
 
 same-length : tie.Need-same-length Inv-loop μ-loop
-same-length c = c .before .before .before .before .before .loop .inv .1 .wide ∙ sym (c .before .before .before .before .before .before .before .before .before .pre .1 .1 .1 .1 .1 .1 .1 .1 .1)
+same-length c = same-widths (c .before .before .before .before .before)
 
 returns : tie.Need-returns Inv-loop μ-loop
 returns c =
-    let old-line = c .before .before .before .old-line in
-    let a = c .before .before .before .before .before .before .before .before .before .args in
-    stopped (a .rest .now) (a .lines .now) (a .base) (a .i) (a .m) (a .b) (a .kept) (stateOf (a .first) (a .widths .now)) (c .before .before .before .before .before .loop .inv .1) (c .before .before .before .before .loop-test .taken) _ (old-line .ensures .0) (old-line .ensures .1) (sym (c .before .stops-at .ensures) ∙ c .if1 .taken)
+    let o = c .before .before .before in
+    stopped (so-far (o .before .before)) (o .before .loop-test .taken) _ (o .old-line .ensures .0) (o .old-line .ensures .1) (sym (c .before .stops-at .ensures) ∙ c .if1 .taken)
 
 slice-aggregate-next-line : tie.Need-slice-aggregate-next-line Inv-loop μ-loop
 slice-aggregate-next-line c = sym (c .before .before .before .before .before .before .loop .inv .0 .0)
@@ -66,20 +133,13 @@ slice-aggregate-next-line-2 : tie.Need-slice-aggregate-next-line-2 Inv-loop μ-l
 slice-aggregate-next-line-2 c = sym (c .before .before .before .before .before .before .before .loop .inv .0 .1)
 
 add-next-line : tie.Need-add-next-line Inv-loop μ-loop
-add-next-line c =
-    let p = c .before .before .before .before .before .before .before .before .before .before .before .pre in
-    let a = c .before .before .before .before .before .before .before .before .before .before .before .args in
-    let v = c .before .before .before .before .before .before .before .loop .inv .1 in
-    let g = grown (a .rest .now) (a .lines .now) (a .base) (a .i) (a .m) (a .b) (a .kept) (stateOf (a .first) (a .widths .now)) v in
-    omega (arith, g .lines, v .count, v .inside, p .1 .1 .1 .1 .1 .0 .0, p .1 .1 .1 .1 .1 .0 .1 .0)
+add-next-line c = omega (arith, far (c .before .before .before .before .before .before .before))
 
 next-line-requires : tie.Need-next-line-requires Inv-loop μ-loop
 next-line-requires c κs =
-    let pre = c .before .before .before .before .before .before .before .before .before .before .before .before .pre in
-    let a = c .before .before .before .before .before .before .before .before .before .before .before .before .args in
-    let v = c .before .before .before .before .before .before .before .before .loop .inv .1 in
-    let p = pre in
-    let g = grown (a .rest .now) (a .lines .now) (a .base) (a .i) (a .m) (a .b) (a .kept) (stateOf (a .first) (a .widths .now)) v in (
+    let i = c .before .before .before .before .before .before .before in
+    let l = i .before in
+    let p = start l .pre in (
       p .0,
       (
         p .1 .0,
@@ -89,10 +149,7 @@ next-line-requires c κs =
             p .1 .1 .1 .0,
             (
               p .1 .1 .1 .1 .0,
-              (
-                (c .before .before .before .before .before .before .before .loop-test .taken, (pre .1 .1 .1 .1 .1 .0 .0, (omega (arith, g .lines, v .count, v .inside, pre .1 .1 .1 .1 .1 .0 .0, pre .1 .1 .1 .1 .1 .0 .1 .0), omega arith))),
-                ((omega (arith, g .depth, v .inside, pre .1 .1 .1 .1 .1 .0 .0, pre .1 .1 .1 .1 .1 .1 .1 .0), (v .few, v .wide)), λ w. absurd (false≢true w)),
-              ),
+              ((i .loop-test .taken, (few-bytes l, (omega (arith, far l), omega arith))), ((omega (arith, far l), (so-far l .few, so-far l .wide)), λ w. absurd (false≢true w))),
             ),
           ),
         ),
@@ -103,99 +160,64 @@ enum-known-next : tie.Need-enum-known-next Inv-loop μ-loop
 enum-known-next c = search needs
 
 add-c : tie.Need-add-c Inv-loop μ-loop
-add-c c =
-    let a = c .before .before .before .before .before .before .before .before .before .before .before .before .before .before .before .before .before .before .before .before .args in
-    let v = c .before .before .before .before .before .before .before .before .before .before .before .before .before .before .before .before .loop .inv .1 in
-    let g = grown (a .rest .now) (a .lines .now) (a .base) (a .i) (a .m) (a .b) (a .kept) (stateOf (a .first) (a .widths .now)) v in
-    omega (arith, g .lines, v .count, v .inside, c .before .before .before .before .before .before .before .before .before .before .before .before .before .before .before .before .before .before .before .before .pre .1 .1 .1 .1 .1 .0 .0)
+add-c c = omega (arith, far (here (read-at c)))
 
 add-k : tie.Need-add-k Inv-loop μ-loop
 add-k c =
-    let l = c .before .before .before .before .before .before .before .before .before .before .before .before .before .before .before .before .loop in
-    let next-line = c .before .before .before .before .before .before .before .next-line in
-    let old-line = c .before .before .before .before .before .before .before .before .before .before .before .before .before .before .old-line in
-    let p = c .before .before .before .before .before .before .before .before .before .before .before .before .before .before .before .before .before .before .before .before .pre in
-    let a = c .before .before .before .before .before .before .before .before .before .before .before .before .before .before .before .before .before .before .before .before .args in
-    let v = l .inv .1 in
-    let x = subst (StepIs _ (a .base + l .q) (a .i + l .c + 1) (l .q + sizeAt (a .rest .now) (l .q)) _) (c .before .next .given .1) (next-line .ensures .0) in
-    let next = next-come (a .rest .now) (a .lines .now) (a .base) (a .i) (a .m) (a .b) (a .kept) (stateOf (a .first) (a .widths .now)) v (c .before .before .before .before .before .before .before .before .before .before .before .before .before .before .before .loop-test .taken) _ (old-line .ensures .0) (old-line .ensures .1) (sym (c .before .before .before .before .before .before .before .before .before .before .before .before .stops-at .ensures) ∙ c .before .before .before .before .before .before .before .before .before .before .before .if1 .left)
-    _ _ _ _ (x .0) (x .1) (x .2) (x .3) (x .4) (next-line .kept .1 .1 .1 .1 .1 .1 .1 .1 .1 .1 .1 .1 .1 .0 ∙ v .wide) in
-    let g = grown (a .rest .now) (a .lines .now) (a .base) (a .i) (a .m) (a .b) (a .kept) (stateOf (a .first) (a .widths .now)) next in
-    omega (arith, g .tokens, next .sum, next .inside, p .1 .1 .1 .1 .1 .0 .0, length-take-le (a .first .levels) (a .widths .now) (omega (arith, p .1 .1 .1 .1 .1 .1 .1 .1 .0, p .1 .1 .1 .1 .1 .1 .1 .1 .1)), p .1 .1 .1 .1 .1 .1 .1 .1 .0)
+    let l = here (read-at c) in
+    let p = start l .pre .1 .1 .1 .1 .1 .1 .1 .1 in
+    let v = next (read-at c) _ _ _ (c .before .next .given .1) in
+    omega (arith, grown v .tokens, v .sum, v .inside, few-bytes l, length-take-le (start l .args .first .levels) (start l .args .widths .now) (omega (arith, p .0, p .1)), p .0)
 
 loop-less : tie.Need-loop-less Inv-loop μ-loop
 loop-less c =
-    let l = c .before .before .before .before .before .before .before .before .before .before .before .before .before .before .before .before .loop in
-    let loop-test = c .before .before .before .before .before .before .before .before .before .before .before .before .before .before .before .loop-test in
-    let a = c .before .before .before .before .before .before .before .before .before .before .before .before .before .before .before .before .before .before .before .before .args in
-    let v = l .inv .1 in
-    let x = subst (StepIs _ (a .base + l .q) (a .i + l .c + 1) (l .q + sizeAt (a .rest .now) (l .q)) _) (c .before .next .given .1) (c .before .before .before .before .before .before .before .next-line .ensures .0) in
-    omega (arith, x .3, loop-test .taken, firstSize-some (drop (l .q) (a .rest .now)) (omega (arith, loop-test .taken, length-drop (l .q) (a .rest .now))))
+    let n = read-at c in
+    let q = here n .loop .q in
+    omega (arith, gave n _ (c .before .next .given .1) .3, more n, firstSize-some (drop q (rest (here n))) (omega (arith, more n, length-drop q (rest (here n)))))
 
 loop-again : tie.Need-loop-again Inv-loop μ-loop
 loop-again c =
-    let l = c .before .before .before .before .before .before .before .before .before .before .before .before .before .before .before .before .loop in
-    let next-line = c .before .before .before .before .before .before .before .next-line in
-    let old-line = c .before .before .before .before .before .before .before .before .before .before .before .before .before .before .old-line in
-    let a = c .before .before .before .before .before .before .before .before .before .before .before .before .before .before .before .before .before .before .before .before .args in
-    let v = l .inv .1 in
-    let x = subst (StepIs _ (a .base + l .q) (a .i + l .c + 1) (l .q + sizeAt (a .rest .now) (l .q)) _) (c .before .next .given .1) (next-line .ensures .0) in (
-      (next-line .kept .1 .1 .1 .1 .1 .1 .1 .1 .0 ∙ l .inv .0 .0, next-line .kept .1 .1 .1 .1 .1 .1 .1 .1 .1 .0 ∙ l .inv .0 .1),
-      next-come (a .rest .now) (a .lines .now) (a .base) (a .i) (a .m) (a .b) (a .kept) (stateOf (a .first) (a .widths .now)) v (c .before .before .before .before .before .before .before .before .before .before .before .before .before .before .before .loop-test .taken) _ (old-line .ensures .0) (old-line .ensures .1) (sym (c .before .before .before .before .before .before .before .before .before .before .before .before .stops-at .ensures) ∙ c .before .before .before .before .before .before .before .before .before .before .before .if1 .left)
-          _ _ _ _ (x .0) (x .1) (x .2) (x .3) (x .4) (next-line .kept .1 .1 .1 .1 .1 .1 .1 .1 .1 .1 .1 .1 .1 .0 ∙ v .wide),
-    )
+    let n = read-at c in
+    let kept = n .next-line .kept .1 .1 .1 .1 .1 .1 .1 .1 in
+    let none = here n .loop .inv .0 in
+    ((kept .0 ∙ none .0, kept .1 .0 ∙ none .1), next n _ _ _ (c .before .next .given .1))
 
 enum-known-f : tie.Need-enum-known-f Inv-loop μ-loop
 enum-known-f c = search needs
 
 same-length-2 : tie.Need-same-length-2 Inv-loop μ-loop
-same-length-2 c = c .before .before .before .before .before .before .before .next-line .kept .1 .1 .1 .1 .1 .1 .1 .1 .1 .1 .1 .1 .1 .0 ∙ c .before .before .before .before .before .before .before .before .before .before .before .before .before .before .before .before .loop .inv .1 .wide ∙ sym (c .before .before .before .before .before .before .before .before .before .before .before .before .before .before .before .before .before .before .before .before .pre .1 .1 .1 .1 .1 .1 .1 .1 .1)
+same-length-2 c = kept-wide (failed-at c) ∙ same-widths (here (failed-at c))
 
 returns-2 : tie.Need-returns-2 Inv-loop μ-loop
 returns-2 c =
-    let l = c .before .before .before .before .before .before .before .before .before .before .before .before .before .before .before .before .loop in
-    let old-line = c .before .before .before .before .before .before .before .before .before .before .before .before .before .before .old-line in
-    let a = c .before .before .before .before .before .before .before .before .before .before .before .before .before .before .before .before .before .before .before .before .args in
-    let x = subst (StepIs _ (a .base + l .q) (a .i + l .c + 1) (l .q + sizeAt (a .rest .now) (l .q)) _) (c .before .f .given .1) (c .before .before .before .before .before .before .before .next-line .ensures .0) in
-    failed-come (a .rest .now) (a .lines .now) (a .base) (a .i) (a .m) (a .b) (a .kept) (stateOf (a .first) (a .widths .now)) (l .inv .1) (c .before .before .before .before .before .before .before .before .before .before .before .before .before .before .before .loop-test .taken) _ (old-line .ensures .0) (old-line .ensures .1) (x .0) _ (x .1) (x .2)
+    let n = failed-at c in
+    let old = compared n .old-line .ensures in
+    let x = gave n _ (c .before .f .given .1) in
+    failed-come (so-far (here n)) (more n) _ (old .0) (old .1) (x .0) _ (x .1) (x .2)
 
 enum-told : tie.Need-enum-told Inv-loop μ-loop
 enum-told c = search needs
 
 add-t38 : tie.Need-add-t38 Inv-loop μ-loop
-add-t38 c =
-    let p = c .before .before .before .before .before .before .before .before .before .before .before .before .before .before .before .before .before .before .before .pre in
-    let a = c .before .before .before .before .before .before .before .before .before .before .before .before .before .before .before .before .before .before .before .args in
-    let v = c .before .before .before .before .before .before .before .before .before .before .before .before .before .before .before .loop .inv .1 in
-    let g = grown (a .rest .now) (a .lines .now) (a .base) (a .i) (a .m) (a .b) (a .kept) (stateOf (a .first) (a .widths .now)) v in
-    omega (arith, g .lines, v .count, v .inside, p .1 .1 .1 .1 .1 .0 .0, p .1 .1 .1 .1 .1 .0 .1 .0)
+add-t38 c = omega (arith, far (here (deep-at c)))
 
 add-t39 : tie.Need-add-t39 Inv-loop μ-loop
-add-t39 c =
-    let p = c .before .before .before .before .before .before .before .before .before .before .before .before .before .before .before .before .before .before .before .pre in
-    let a = c .before .before .before .before .before .before .before .before .before .before .before .before .before .before .before .before .before .before .before .args in
-    let v = c .before .before .before .before .before .before .before .before .before .before .before .before .before .before .before .loop .inv .1 in
-    let g = grown (a .rest .now) (a .lines .now) (a .base) (a .i) (a .m) (a .b) (a .kept) (stateOf (a .first) (a .widths .now)) v in
-    omega (arith, g .lines, v .count, v .inside, p .1 .1 .1 .1 .1 .0 .0, p .1 .1 .1 .1 .1 .0 .1 .0)
+add-t39 c = omega (arith, far (here (deep-at c)))
 
 same-length-3 : tie.Need-same-length-3 Inv-loop μ-loop
-same-length-3 c = c .before .before .before .before .before .before .next-line .kept .1 .1 .1 .1 .1 .1 .1 .1 .1 .1 .1 .1 .1 .0 ∙ c .before .before .before .before .before .before .before .before .before .before .before .before .before .before .before .loop .inv .1 .wide ∙ sym (c .before .before .before .before .before .before .before .before .before .before .before .before .before .before .before .before .before .before .before .pre .1 .1 .1 .1 .1 .1 .1 .1 .1)
+same-length-3 c = kept-wide (deep-at c) ∙ same-widths (here (deep-at c))
 
 returns-3 : tie.Need-returns-3 Inv-loop μ-loop
 returns-3 c =
-    let l = c .before .before .before .before .before .before .before .before .before .before .before .before .before .before .before .loop in
-    let old-line = c .before .before .before .before .before .before .before .before .before .before .before .before .before .old-line in
-    let a = c .before .before .before .before .before .before .before .before .before .before .before .before .before .before .before .before .before .before .before .args in
-    let x = subst (StepIs _ (a .base + l .q) (a .i + l .c + 1) (l .q + sizeAt (a .rest .now) (l .q)) _) (c .enum-told .given .1) (c .before .before .before .before .before .before .next-line .ensures .0) in
-    deep-come (a .rest .now) (a .lines .now) (a .base) (a .i) (a .m) (a .b) (a .kept) (stateOf (a .first) (a .widths .now)) (l .inv .1) (c .before .before .before .before .before .before .before .before .before .before .before .before .before .before .loop-test .taken) _ (old-line .ensures .0) (old-line .ensures .1) x
+    let n = deep-at c in
+    let old = compared n .old-line .ensures in
+    deep-come (so-far (here n)) (more n) _ (old .0) (old .1) (gave n _ (c .enum-told .given .1))
 
 same-length-4 : tie.Need-same-length-4 Inv-loop μ-loop
-same-length-4 c = c .before .loop .inv .1 .wide ∙ sym (c .before .before .before .before .before .pre .1 .1 .1 .1 .1 .1 .1 .1 .1)
+same-length-4 c = same-widths (c .before)
 
 returns-4 : tie.Need-returns-4 Inv-loop μ-loop
-returns-4 c =
-    let a = c .before .before .before .before .before .args in
-    ended (a .rest .now) (a .lines .now) (a .base) (a .i) (a .m) (a .b) (a .kept) (stateOf (a .first) (a .widths .now)) (c .before .loop .inv .1) (c .loop-test .left)
+returns-4 c = ended (so-far (c .before)) (c .loop-test .left)
 
 pub reread-lines-spec : {M : Type 1} → statement M
 reread-lines-spec =
