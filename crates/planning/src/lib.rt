@@ -7,6 +7,7 @@ ghost use Rattle.rules.specs.Reading.{countLF};
 ghost use Rattle.rules.specs.Page.{fits};
 ghost use Rattle.line.specs.States.{stateOf};
 ghost use Rattle.header.specs.Pages.{page};
+ghost use Rattle.rereading.specs.Rereads.{RereadIs};
 ghost use Rattle.planning.specs.Starts.{lineWord, stateFrom, isUsable};
 ghost use Rattle.planning.specs.Plans.{roomed, beginLine, stopPlan, stopAnswer, endPlan, editOf, editedText, PlanIs};
 
@@ -241,6 +242,46 @@ fn plan_end(
     plan_room(p, m, k, lines.len(), tokens)
 }
 
+// The lines of the edited text from old line i on, read again up to the stop rule.
+fn reread_from(
+    lines: &[u32],
+    edited: &[u8],
+    i: usize,
+    m: usize,
+    b: usize,
+    kept: usize,
+) -> rereading::Reread
+    requires { ⌜ (i ≤ 1_048_576) × ((i ≤ m) × ((m ≤ 4_294_967_295) × (21 * (m + 1) ≤ length (now lines)))) ⌝ }
+    requires { ⌜ (i ≤ lineWord (now lines) i 0) × ((lineWord (now lines) i 2 ≤ lineWord (now lines) i 0) × (lineWord (now lines) i 4 ≤ 16)) ⌝ }
+    requires { ⌜ (lineWord (now lines) i 0 ≤ length (now edited)) × ((length (now edited) ≤ 1_048_576) × (b ≤ 4_294_967_295)) ⌝ }
+    ensures { λ r. ⌜ RereadIs (drop (lineWord (now (lines .entry)) i 0) (now (edited .entry))) (now (lines .entry)) (lineWord (now (lines .entry)) i 0) i m b kept (stateFrom (now (lines .entry)) i) r ⌝ }
+{
+    let class = spelling::class_table();
+    let reach = spelling::reach_table();
+    let index = spelling::sign_index();
+    let signs = spelling::sign_table();
+    let keywords = spelling::keyword_table();
+    let mut widths: [u32; 16] = [0; 16];
+    let s = load_state(lines, i, &mut widths);
+    let base = lines[21 * i + 0] as usize;
+    rereading::reread_lines(
+        &class,
+        &reach,
+        &index,
+        &signs,
+        &keywords,
+        &edited[base..],
+        lines,
+        base,
+        i,
+        m,
+        b,
+        kept,
+        &mut widths,
+        s,
+    )
+}
+
 // What an edit of bytes a..b to w writes, for a page that fits; `edited` is the edited text.
 pub fn plan_edit(
     n: u32,
@@ -263,30 +304,8 @@ pub fn plan_edit(
     if (m as usize) < i {
         return PlanAnswer::Unfit;
     }
-    let class = spelling::class_table();
-    let reach = spelling::reach_table();
-    let index = spelling::sign_index();
-    let signs = spelling::sign_table();
-    let keywords = spelling::keyword_table();
-    let mut widths: [u32; 16] = [0; 16];
-    let s = load_state(lines, i, &mut widths);
     let base = lines[21 * i + 0] as usize;
-    match rereading::reread_lines(
-        &class,
-        &reach,
-        &index,
-        &signs,
-        &keywords,
-        &edited[base..],
-        lines,
-        base,
-        i,
-        m as usize,
-        b,
-        a + w.len(),
-        &mut widths,
-        s,
-    ) {
+    match reread_from(lines, edited, i, m as usize, b, a + w.len()) {
         rereading::Reread::Stops(c, t, q, j) => {
             plan_stop(
                 lines,

@@ -46,31 +46,10 @@ begin-line-requires c κs =
 returns : tie.Need-returns
 returns c = λ spare fa. absurd (begins-within (editable (c .before .before .before .before .before .before .before)) fa _ (c .before .begin-line .ensures) (c .if1 .taken))
 
-class-table-requires : tie.Need-class-table-requires
-class-table-requires c κs = search needs
-
-reach-table-requires : tie.Need-reach-table-requires
-reach-table-requires c κs = search needs
-
-sign-index-requires : tie.Need-sign-index-requires
-sign-index-requires c κs = search needs
-
-sign-table-requires : tie.Need-sign-table-requires
-sign-table-requires c κs = search needs
-
-keyword-table-requires : tie.Need-keyword-table-requires
-keyword-table-requires c κs = search needs
-
-slice-aggregate-load-state : tie.Need-slice-aggregate-load-state
-slice-aggregate-load-state c = search needs
-
 -- Where reading again begins: at the line that `begin_line` found, within the page.
 
 abbrev start : tie.Else1 → tie.Start
 start c = c .before .before .before .before .before .before .before
-
-abbrev branch : tie.After-load-state → tie.Else1
-branch c = c .before .before .before .before .before .before .before
 
 abbrev line-at : tie.Else1 → ℕ
 line-at c = c .before .begin-line .result
@@ -80,12 +59,6 @@ begun-at c = let a = start c .args in begun (a .text .now) (a .lines .now) (a .m
 
 base-inside : (c : tie.Else1) → lineWord (start c .args .lines .now) (line-at c) 0 ≤ length (start c .args .edited .now)
 base-inside c = omega (arith, inside-u (editable (start c)) (begun-at c), ap length (start c .pre .1 .1))
-
-load-state-requires : tie.Need-load-state-requires
-load-state-requires c κs =
-    let b = c .before .before .before .before .before .before in
-    let g = begun-at b in
-    ((omega (arith, g .within, g .m-le), (omega (arith, g .within, editable (start b) .fits .lines), refl)), g .usable .levels)
 
 mul-base : tie.Need-mul-base
 mul-base c = search needs
@@ -97,90 +70,46 @@ mul-base-2 : tie.Need-mul-base-2
 mul-base-2 c = search needs
 
 shared-slice-read-base : tie.Need-shared-slice-read-base
-shared-slice-read-base c =
-    let b = branch (c .before .before) in
-    omega (arith, b .if1 .left, editable (start b) .fits .lines)
+shared-slice-read-base c = let b = c .before in omega (arith, b .if1 .left, editable (start b) .fits .lines)
 
 cast-base : tie.Need-cast-base
-cast-base c = omega (arith, c .shared-slice-known6 .given (21 * line-at (branch (c .before .before)) + 0))
+cast-base c = omega (arith, c .shared-slice-known6 .given (21 * line-at (c .before) + 0))
 
-sub-reread-lines : tie.Need-sub-reread-lines
-sub-reread-lines c = base-inside (branch (c .before .before .before .before .before .before .before))
+add-reread-from : tie.Need-add-reread-from
+add-reread-from c = let s = start (c .before) in omega (arith, edited-holds (editable s), editable s .small)
 
-part-reread-lines-start : tie.Need-part-reread-lines-start
-part-reread-lines-start c = base-inside (branch (c .before .before .before .before .before .before .before))
-
-part-reread-lines-end : tie.Need-part-reread-lines-end
-part-reread-lines-end c = search needs
-
-add-reread-lines : tie.Need-add-reread-lines
-add-reread-lines c =
-    let s = start (branch (c .before .before .before .before .before .before .before .before)) in
-    omega (arith, edited-holds (editable s), editable s .small)
-
-slice-aggregate-reread-lines : tie.Need-slice-aggregate-reread-lines
-slice-aggregate-reread-lines c = search needs
-
-reread-lines-requires : tie.Need-reread-lines-requires
-reread-lines-requires c κs =
-    let l = c .before .before .before .before .before .before .before .before .before in
-    let t = l .before .before in
-    let b = branch l in
+reread-from-requires : tie.Need-reread-from-requires
+reread-from-requires c κs =
+    let b = c .before in
     let s = start b in
-    let g = begun-at b in
-    let E = s .args .edited .now in
-    let base = lineWord (s .args .lines .now) (line-at b) 0 in
-    let d : l .load-state .result .depth ≡ lineWord (s .args .lines .now) (line-at b) 2 = ap (λ (y : State). y .depth) (l .load-state .ensures .0) in (
-      t .before .before .before .before .class-table .ensures,
-      (
-        t .before .before .before .reach-table .ensures,
-        (
-          t .before .before .sign-index .ensures,
-          (
-            t .before .sign-table .ensures,
-            (
-              t .keyword-table .ensures,
-              (
-                (
-                  omega (arith, length-take (length E - base) (drop base E), length-drop base E, s .pre .1 .0 .1 .1, base-inside b),
-                  (g .usable .number, (g .within, omega (arith, s .pre .1 .0 .1 .0, s .fits))),
-                ),
-                ((omega (arith, s .fits), editable s .fits .lines), (omega (arith, d, g .usable .depth), (l .load-state .ensures .1, l .load-state .kept .1 .1 .0))),
-              ),
-            ),
-          ),
-        ),
-      ),
+    let g = begun-at b in (
+      (omega (arith, g .within, g .m-le), (g .within, (omega (arith, s .fits), editable s .fits .lines))),
+      ((g .usable .number, (g .usable .depth, g .usable .levels)), (base-inside b, (s .pre .1 .0 .1 .1, omega (arith, s .pre .1 .0 .1 .0, s .fits)))),
     )
 
 -- After reading again: where it began, and what it gave, of the edited text on paper.
 
-abbrev loaded : tie.After-reread-lines → tie.After-load-state
-loaded c = c .before .before .before .before .before .before .before .before .before .before
+abbrev branch : tie.After-reread-from → tie.Else1
+branch c = c .before .before
 
-abbrev start-of : tie.After-reread-lines → tie.Start
-start-of c = start (branch (loaded c))
+abbrev ok : (c : tie.After-reread-from) → Editable (page-at (start (branch c))) (edit-at (start (branch c)))
+ok c = editable (start (branch c))
 
-abbrev ok : (c : tie.After-reread-lines) → Editable (page-at (start-of c)) (edit-at (start-of c))
-ok c = editable (start-of c)
+abbrev begun-of : (c : tie.After-reread-from) → let a = start (branch c) .args in Begun (a .text .now) (a .lines .now) (a .m) (a .k) (a .a) (line-at (branch c))
+begun-of c = begun-at (branch c)
 
-abbrev begun-of : (c : tie.After-reread-lines) → let a = start-of c .args in Begun (a .text .now) (a .lines .now) (a .m) (a .k) (a .a) (line-at (branch (loaded c)))
-begun-of c = begun-at (branch (loaded c))
-
-given : (c : tie.After-reread-lines) {r : Reread} → c .reread-lines .result ≡ r → Gives (ok c) (begun-of c) r
+given : (c : tie.After-reread-from) {r : Reread} → c .reread-from .result ≡ r → Gives (ok c) (begun-of c) r
 given c e =
-    let s = start-of c in
-    let E = s .args .edited .now in
-    let base = lineWord (s .args .lines .now) (line-at (branch (loaded c))) 0 in
-    let rest = take-all (length E - base) (drop base E) (omega (arith, length-drop base E)) ∙ ap (drop base) (s .pre .1 .1) in
-    gives (ok c) (begun-of c) rest (loaded c .load-state .ensures .0) e (c .reread-lines .ensures)
+    let s = start (branch c) in
+    let base = lineWord (s .args .lines .now) (line-at (branch c)) 0 in
+    gives (ok c) (begun-of c) (ap (drop base) (s .pre .1 .1)) refl e (c .reread-from .ensures)
 
 enum-known-c : tie.Need-enum-known-c
 enum-known-c c = search needs
 
 plan-stop-requires : tie.Need-plan-stop-requires
 plan-stop-requires c κs =
-    let x = c .before .before .before .before in
+    let x = c .before .before .before in
     let g = begun-of x in
     let v = stop-small (ok x) g (given x (c .before .c .given .1)) in
     ((g .within, (v .0, (g .m-le, ok x .fits .lines))), (g .usable .first, (g .k-le, (v .1, (v .2, v .3)))))
@@ -190,7 +119,7 @@ enum-known-c-2 c = search needs
 
 plan-end-requires : tie.Need-plan-end-requires
 plan-end-requires c κs =
-    let x = c .before .before .before .before in
+    let x = c .before .before .before in
     let g = begun-of x in
     let v = end-small (ok x) g (given x (c .before .c2 .given .1)) in
     ((g .within, (g .m-le, ok x .fits .lines)), (g .usable .first, (g .k-le, (v .0, v .1))))
@@ -203,23 +132,23 @@ enum-known-number c = search needs
 
 returns-2 : tie.Need-returns-2
 returns-2 c =
-    let x = c .before .before .before .before .before in
+    let x = c .before .before .before .before in
     let m = c .before .before .c in
-    let old = x .before .before .before .before .before .before .before .before .shared-slice-known6 .given (21 * m .given .0 .1 .1 .1 .0 + 0) in
+    let old = x .before .shared-slice-known6 .given (21 * m .given .0 .1 .1 .1 .0 + 0) in
     rw (c .plan-stop .ensures) (stop-plan (ok x) (begun-of x) (given x (m .given .1)) (omega (arith, old)))
 
 returns-3 : tie.Need-returns-3
 returns-3 c =
-    let x = c .before .before .before .before .before in
-    let s = start-of x in
+    let x = c .before .before .before .before in
+    let s = start (branch x) in
     let m = c .before .before .c2 in
     rw (c .plan-end .ensures, s .pre .1 .1) (end-plan (ok x) (begun-of x) (given x (m .given .1)) (omega (arith, s .fits)))
 
 returns-4 : tie.Need-returns-4
-returns-4 c = let x = c .before .before .before .before in fail-plan (ok x) (begun-of x) (given x (c .before .f .given .1))
+returns-4 c = let x = c .before .before .before in fail-plan (ok x) (begun-of x) (given x (c .before .f .given .1))
 
 returns-5 : tie.Need-returns-5
-returns-5 c = let x = c .before .before .before .before in deep-plan (ok x) (begun-of x) (given x (c .before .number .given .1))
+returns-5 c = let x = c .before .before .before in deep-plan (ok x) (begun-of x) (given x (c .before .number .given .1))
 
 pub plan-edit-spec : {M : Type 1} → statement M
 plan-edit-spec =
@@ -227,24 +156,13 @@ plan-edit-spec =
     (tie.spec
     begin-line-requires
     returns
-    class-table-requires
-    reach-table-requires
-    sign-index-requires
-    sign-table-requires
-    keyword-table-requires
-    slice-aggregate-load-state
-    load-state-requires
     mul-base
     add-base
     mul-base-2
     shared-slice-read-base
     cast-base
-    sub-reread-lines
-    part-reread-lines-start
-    part-reread-lines-end
-    add-reread-lines
-    slice-aggregate-reread-lines
-    reread-lines-requires
+    add-reread-from
+    reread-from-requires
     enum-known-c
     plan-stop-requires
     enum-known-c-2
