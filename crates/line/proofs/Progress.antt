@@ -1,6 +1,6 @@
 -- The cuts of a line as a loop makes them: what was cut so far, and what is left.
 -- Assumes nothing.
-use Prim.Native.Nat.{ℕ, zero, suc, _+_, _-_, _*_, _≤_, _<_, pred}
+use Prim.Native.Nat.{ℕ, zero, suc, _+_, _*_, _≤_, _<_, pred}
 use mathlib.Core.Path.{_≡_, refl, sym, ap, subst, _∙_}
 use mathlib.Core.Bool.{Bool, true, false}
 use mathlib.Core.List.{List, [], _∷_, _++_, append-assoc, append-nil}
@@ -11,12 +11,12 @@ use lib.ListN.{length, drop, length-append, length-drop}
 use Rattle.rules.specs.Lists.{if_then_else_}
 use Rattle.rules.specs.Kinds.{Implies, LParen, RParen}
 use Rattle.rules.specs.Failure.{Failure}
-use Rattle.rules.specs.Cut.{Cut, blank, comment, token, fails, cut}
+use Rattle.rules.specs.Cut.{blank, comment, token, fails, cut}
 use Rattle.rules.specs.Line.{Token, tokenAt, Cuts, cuts, stops, withToken, movedBy, cutsFrom, depthAfter, arrowAfter}
 use Rattle.rules.specs.Records.{tokenWords}
-use Rattle.rules.proofs.CutLaws.{TokenOk, CutOk, cut-ok, cuts-end, cuts-blank, cuts-comment, cuts-token, cuts-fails}
+use Rattle.rules.proofs.CutLaws.{TokenOk, cut-ok, cuts-end, cuts-blank, cuts-comment, cuts-token, cuts-fails}
 use Rattle.rules.proofs.RecordLaws.{length-tokenWords}
-use Rattle.cut.specs.Cuts.{plainKind, cutNamed}
+use Rattle.cut.specs.Cuts.{cutNamed}
 use Rattle.cut.proofs.Plain.{Named, named-token, plain-eqb}
 use Rattle.rules.proofs.ListLaws.{if-by}
 use Rattle.line.specs.States.{depthBy}
@@ -83,93 +83,93 @@ module _ (l : List ℕ) (d₀ p number k : ℕ) (write : Bool) (tokens₀ : List
         words = sym (putIf-none write tokens₀ (5 * k));
       }
 
-  module _ {tokens : List ℕ} {at n depth : ℕ} {arrow : Bool} (v : Progress tokens at n depth arrow) where
-    pub same-tokens : length tokens ≡ length tokens₀
-    same-tokens = ap length (v .words) ∙ length-putIf write tokens₀ (5 * k) (tokenWords p number (v .done))
+module _ {l : List ℕ} {d₀ p number k : ℕ} {write : Bool} {tokens₀ tokens : List ℕ} {at n depth : ℕ} {arrow : Bool} (v : Progress l d₀ p number k write tokens₀ tokens at n depth arrow) where
+  pub same-tokens : length tokens ≡ length tokens₀
+  same-tokens = ap length (v .words) ∙ length-putIf write tokens₀ (5 * k) (tokenWords p number (v .done))
 
-    pub at-end : length l ≤ at → cutsFrom 0 0 l ≡ cuts (v .done)
+  pub at-end : length l ≤ at → cutsFrom 0 0 l ≡ cuts (v .done)
+  unfolding withTokens
+  at-end h = v .rest ∙ ap (withTokens (v .done)) (cuts-end at l h) ∙ ap cuts (append-nil (v .done))
+
+  module _ (h : at < length l) where
+    pub at-comment : cut (drop at l) ≡ comment → cutsFrom 0 0 l ≡ cuts (v .done)
     unfolding withTokens
-    at-end h = v .rest ∙ ap (withTokens (v .done)) (cuts-end at l h) ∙ ap cuts (append-nil (v .done))
+    at-comment e = v .rest ∙ ap (withTokens (v .done)) (cuts-comment at l h e) ∙ ap cuts (append-nil (v .done))
 
-    module _ (h : at < length l) where
-      pub at-comment : cut (drop at l) ≡ comment → cutsFrom 0 0 l ≡ cuts (v .done)
-      unfolding withTokens
-      at-comment e = v .rest ∙ ap (withTokens (v .done)) (cuts-comment at l h e) ∙ ap cuts (append-nil (v .done))
+    pub at-failure : (f : Failure) → cut (drop at l) ≡ fails f → cutsFrom 0 0 l ≡ stops (movedBy at f)
+    unfolding withTokens
+    at-failure f e = v .rest ∙ ap (withTokens (v .done)) (cuts-fails at l h f e)
 
-      pub at-failure : (f : Failure) → cut (drop at l) ≡ fails f → cutsFrom 0 0 l ≡ stops (movedBy at f)
-      unfolding withTokens
-      at-failure f e = v .rest ∙ ap (withTokens (v .done)) (cuts-fails at l h f e)
+    pub past-blank : cut (drop at l) ≡ blank → Progress l d₀ p number k write tokens₀ tokens (at + 1) n depth arrow
+    past-blank e =
+        record {
+          done = v .done;
+          inside = omega arith;
+          rest = v .rest ∙ ap (withTokens (v .done)) (cuts-blank at l h e);
+          count = v .count;
+          few = omega (arith, v .few);
+          depth-is = v .depth-is;
+          arrow-is = v .arrow-is;
+          words = v .words;
+        }
 
-      pub past-blank : cut (drop at l) ≡ blank → Progress tokens (at + 1) n depth arrow
-      past-blank e =
-          record {
-            done = v .done;
-            inside = omega arith;
-            rest = v .rest ∙ ap (withTokens (v .done)) (cuts-blank at l h e);
-            count = v .count;
-            few = omega (arith, v .few);
-            depth-is = v .depth-is;
-            arrow-is = v .arrow-is;
-            words = v .words;
-          }
+    -- the kind that the pass gives serves the depth and the arrow
+    pub past-token : (real kind size : ℕ) → cut (drop at l) ≡ token real size → Named write real kind → (tokens′ : List ℕ)
+        → tokens′ ≡ putIf write tokens (5 * (k + n)) (kind ∷ (p + at) ∷ size ∷ number ∷ (at + 1) ∷ [])
+        → (depth′ : ℕ) → depth′ ≡ depthBy depth kind → Progress l d₀ p number k write tokens₀ tokens′ (at + size) (n + 1) depth′ (eqb kind Implies)
+    unfolding depthBy
+    past-token real kind size e same tokens′ written depth′ left =
+        let ok : TokenOk (drop at l) real size = rw e at (cut-ok (drop at l)) in
+        let t : Token = tokenAt real at size in
+        let paren : eqb real LParen ≡ eqb kind LParen = plain-eqb LParen real kind (omega arith) (same .plain) in
+        let close : eqb real RParen ≡ eqb kind RParen = plain-eqb RParen real kind (omega arith) (same .plain) in
+        let arr : eqb real Implies ≡ eqb kind Implies = plain-eqb Implies real kind (omega arith) (same .plain) in
+        let before : List ℕ = tokenWords p number (v .done) in
+        let place : 5 * (k + n) ≡ 5 * k + length before = omega (arith, length-tokenWords p number (v .done), v .count) in
+        record {
+          done = v .done ++ (t ∷ []);
+          inside = omega (arith, ok .in-line, length-drop at l);
+          rest = v .rest ∙ ap (withTokens (v .done)) (cuts-token at l h real size e) ∙ withTokens-more (v .done) t (cutsFrom (at + size) 0 (drop (at + size) l));
+          count = omega (arith, length-append (v .done) (t ∷ []), v .count);
+          few = omega (arith, v .few, ok .some-bytes);
+          depth-is = depth-snoc d₀ (v .done) t ∙ rw (v .depth-is, paren, close) (sym left);
+          arrow-is = arrow-snoc false (v .done) t ∙ arr;
+          words = written
+              ∙ ap (λ (x : List ℕ). putIf write x (5 * (k + n)) (kind ∷ (p + at) ∷ size ∷ number ∷ (at + 1) ∷ [])) (v .words)
+              ∙ putIf-append write tokens₀ (5 * k) (5 * (k + n)) before (kind ∷ (p + at) ∷ size ∷ number ∷ (at + 1) ∷ []) place
+              ∙ putIf-by write tokens₀ (5 * k) _ (tokenWords p number (v .done ++ (t ∷ [])))
+              (λ w. ap (λ (x : ℕ). before ++ (x ∷ (p + at) ∷ size ∷ number ∷ (at + 1) ∷ [])) (sym (same .real w))
+              ∙ ap (λ (x : ℕ). before ++ (real ∷ (p + at) ∷ size ∷ number ∷ x ∷ [])) (add-one at) ∙ sym (words-snoc p number (v .done) t));
+        }
 
-      -- the kind that the pass gives serves the depth and the arrow
-      pub past-token : (real kind size : ℕ) → cut (drop at l) ≡ token real size → Named write real kind → (tokens′ : List ℕ)
-          → tokens′ ≡ putIf write tokens (5 * (k + n)) (kind ∷ (p + at) ∷ size ∷ number ∷ (at + 1) ∷ [])
-          → (depth′ : ℕ) → depth′ ≡ depthBy depth kind → Progress tokens′ (at + size) (n + 1) depth′ (eqb kind Implies)
-      unfolding depthBy
-      past-token real kind size e same tokens′ written depth′ left =
-          let ok : TokenOk (drop at l) real size = rw e at (cut-ok (drop at l)) in
-          let t : Token = tokenAt real at size in
-          let paren : eqb real LParen ≡ eqb kind LParen = plain-eqb LParen real kind (omega arith) (same .plain) in
-          let close : eqb real RParen ≡ eqb kind RParen = plain-eqb RParen real kind (omega arith) (same .plain) in
-          let arr : eqb real Implies ≡ eqb kind Implies = plain-eqb Implies real kind (omega arith) (same .plain) in
-          let before : List ℕ = tokenWords p number (v .done) in
-          let place : 5 * (k + n) ≡ 5 * k + length before = omega (arith, length-tokenWords p number (v .done), v .count) in
-          record {
-            done = v .done ++ (t ∷ []);
-            inside = omega (arith, ok .in-line, length-drop at l);
-            rest = v .rest ∙ ap (withTokens (v .done)) (cuts-token at l h real size e) ∙ withTokens-more (v .done) t (cutsFrom (at + size) 0 (drop (at + size) l));
-            count = omega (arith, length-append (v .done) (t ∷ []), v .count);
-            few = omega (arith, v .few, ok .some-bytes);
-            depth-is = depth-snoc d₀ (v .done) t ∙ rw (v .depth-is, paren, close) (sym left);
-            arrow-is = arrow-snoc false (v .done) t ∙ arr;
-            words = written
-                ∙ ap (λ (x : List ℕ). putIf write x (5 * (k + n)) (kind ∷ (p + at) ∷ size ∷ number ∷ (at + 1) ∷ [])) (v .words)
-                ∙ putIf-append write tokens₀ (5 * k) (5 * (k + n)) before (kind ∷ (p + at) ∷ size ∷ number ∷ (at + 1) ∷ []) place
-                ∙ putIf-by write tokens₀ (5 * k) _ (tokenWords p number (v .done ++ (t ∷ [])))
-                (λ w. ap (λ (x : ℕ). before ++ (x ∷ (p + at) ∷ size ∷ number ∷ (at + 1) ∷ [])) (sym (same .real w))
-                ∙ ap (λ (x : ℕ). before ++ (real ∷ (p + at) ∷ size ∷ number ∷ x ∷ [])) (add-one at) ∙ sym (words-snoc p number (v .done) t));
-          }
+    -- a token more has room where all tokens of the line have
+    pub room-for : (real size : ℕ) → cut (drop at l) ≡ token real size → (ts : List Token) → cutsFrom 0 0 l ≡ cuts ts → n < length ts
+    unfolding withTokens withToken
+    room-for real size e ts all =
+        go (cutsFrom (at + size) 0 (drop (at + size) l)) (v .rest ∙ ap (withTokens (v .done)) (cuts-token at l h real size e))
+      where
+        go : (x : Cuts) → cutsFrom 0 0 l ≡ withTokens (v .done) (withToken (tokenAt real at size) x) → n < length ts
+        go (cuts us) q =
+            let same : ts ≡ v .done ++ (tokenAt real at size ∷ us) = cc in
+            omega (arith, ap length same, length-append (v .done) (tokenAt real at size ∷ us), v .count)
+        go (stops f) q = let z : _≡_ {A = ℕ} 0 1 = cc in absurd (omega arith)
 
-      -- a token more has room where all tokens of the line have
-      pub room-for : (real size : ℕ) → cut (drop at l) ≡ token real size → (ts : List Token) → cutsFrom 0 0 l ≡ cuts ts → n < length ts
-      unfolding withTokens withToken
-      room-for real size e ts all =
-          go (cutsFrom (at + size) 0 (drop (at + size) l)) (v .rest ∙ ap (withTokens (v .done)) (cuts-token at l h real size e))
-        where
-          go : (x : Cuts) → cutsFrom 0 0 l ≡ withTokens (v .done) (withToken (tokenAt real at size) x) → n < length ts
-          go (cuts us) q =
-              let same : ts ≡ v .done ++ (tokenAt real at size ∷ us) = cc in
-              omega (arith, ap length same, length-append (v .done) (tokenAt real at size ∷ us), v .count)
-          go (stops f) q = let z : _≡_ {A = ℕ} 0 1 = cc in absurd (omega arith)
+  -- The line is done: all that was cut stands there, or the pass does not write.
 
-    -- The line is done: all that was cut stands there, or the pass does not write.
+  pub ended : cutsFrom 0 0 l ≡ cuts (v .done)
+      → (Ends n depth arrow ≡ lineCutsOf d₀ (cutsFrom 0 0 l)) × (tokens ≡ putIf write tokens₀ (5 * k) (tokenWords p number (tokensOf (cutsFrom 0 0 l))))
+  ended e = (
+    (λ i. Ends (sym (v .count) i) (sym (v .depth-is) i) (sym (v .arrow-is) i)) ∙ ap (lineCutsOf d₀) (sym e),
+    v .words ∙ ap (λ (x : Cuts). putIf write tokens₀ (5 * k) (tokenWords p number (tokensOf x))) (sym e),
+  )
 
-    pub ended : cutsFrom 0 0 l ≡ cuts (v .done)
-        → (Ends n depth arrow ≡ lineCutsOf d₀ (cutsFrom 0 0 l)) × (tokens ≡ putIf write tokens₀ (5 * k) (tokenWords p number (tokensOf (cutsFrom 0 0 l))))
-    ended e = (
-      (λ i. Ends (sym (v .count) i) (sym (v .depth-is) i) (sym (v .arrow-is) i)) ∙ ap (lineCutsOf d₀) (sym e),
-      v .words ∙ ap (λ (x : Cuts). putIf write tokens₀ (5 * k) (tokenWords p number (tokensOf x))) (sym e),
-    )
-
-    pub stopped : (f : Failure) (m : ℕ) → cutsFrom 0 0 l ≡ stops f → (write ≡ true → RoomFor (cutsFrom 0 0 l) k m)
-        → (Stops (failureIn f) ≡ lineCutsOf d₀ (cutsFrom 0 0 l)) × (tokens ≡ putIf write tokens₀ (5 * k) (tokenWords p number (tokensOf (cutsFrom 0 0 l))))
-    stopped f m e room = (
-      ap (lineCutsOf d₀) (sym e),
-      v .words ∙ putIf-by write tokens₀ (5 * k) (tokenWords p number (v .done)) (tokenWords p number (tokensOf (cutsFrom 0 0 l)))
-          (λ w. absurd (subst (λ (x : Cuts). RoomFor x k m) e (room w))),
-    )
+  pub stopped : (f : Failure) (m : ℕ) → cutsFrom 0 0 l ≡ stops f → (write ≡ true → RoomFor (cutsFrom 0 0 l) k m)
+      → (Stops (failureIn f) ≡ lineCutsOf d₀ (cutsFrom 0 0 l)) × (tokens ≡ putIf write tokens₀ (5 * k) (tokenWords p number (tokensOf (cutsFrom 0 0 l))))
+  stopped f m e room = (
+    ap (lineCutsOf d₀) (sym e),
+    v .words ∙ putIf-by write tokens₀ (5 * k) (tokenWords p number (v .done)) (tokenWords p number (tokensOf (cutsFrom 0 0 l)))
+        (λ w. absurd (subst (λ (x : Cuts). RoomFor x k m) e (room w))),
+  )
 
 -- room for all tokens of a line
 pub all-room : (x : Cuts) (k m : ℕ) → RoomFor x k m → (ts : List Token) × (x ≡ cuts ts) × (5 * (k + length ts) ≤ m)

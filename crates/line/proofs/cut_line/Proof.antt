@@ -1,16 +1,16 @@
 -- `line::cut_line` meets its contract. So far the cuts before `at` are done.
 -- Assumes nothing.
-use Prim.Native.Nat.{ℕ, suc, _+_, _-_, _*_, _≤_, _<_}
-use mathlib.Core.Path.{_≡_, refl, sym, ap, subst, _∙_}
-use mathlib.Core.Bool.{Bool, true, false}
-use mathlib.Core.List.{List, [], _∷_}
+use Prim.Native.Nat.{ℕ, _+_, _-_, _≤_, _<_}
+use mathlib.Core.Path.{_≡_, sym, ap, _∙_}
+use mathlib.Core.List.{List}
 use native.Mathlib.Omega.{arith}
 use borrow.Author.Needs.{needs}
-use lib.Dec.{eqb}
 use lib.ListN.{length, drop}
-use Rattle.rules.specs.Cut.{cut}
+use Rattle.rules.specs.Failure.{Failure}
+use Rattle.rules.specs.Cut.{fails, cut}
 use Rattle.rules.specs.Line.{movedBy, cutsFrom}
-use Rattle.cut.specs.Cuts.{cutOf, failureOf}
+use Rattle.cut.specs.declared.Cut.{Cut}
+use Rattle.cut.specs.Cuts.{cutOf, failureOf, cutNamed}
 use Rattle.cut.proofs.Plain.{named-blank, named-comment, named-fails}
 use Rattle.line.proofs.Progress.{Progress, start, same-tokens, at-end, at-comment, at-failure, past-blank, past-token, room-for, ended, stopped, all-room, depth-by-le, TokenAt, token-at, failure-at}
 use Rattle.line.proofs.cut_line.Statement.{statement}
@@ -22,6 +22,58 @@ Inv-loop class reach index signs keywords line tokens₀ write k position number
 abbrev μ-loop : tie.MeasureT-loop
 μ-loop class reach index signs keywords line tokens₀ write k position number depth at₀ n₀ open₀ arrow₀ tokens at n «open» arrow = length line - at
 
+-- A turn of the loop, with what the function was called with.
+module _ (l : tie.In-loop Inv-loop μ-loop) where
+  abbrev called : tie.Start Inv-loop μ-loop
+  called = l .before .before .before .before
+
+  abbrev line : List ℕ
+  line = called .args .line .now
+
+  abbrev at : ℕ
+  at = l .before .loop .at
+
+  abbrev so-far : let a = called .args in let x = l .before .loop in Progress line (a .depth) (a .position) (a .number) (a .k) (a .write) (a .tokens .now) (x .tokens) at (x .n) (x .«open») (x .arrow)
+  so-far = l .before .loop .inv .0
+
+  abbrev more : at < length line
+  more = l .loop-test .taken
+
+  far : (called .args .position + length line ≤ 1_048_576) × (called .args .position + at < 1_048_576) × (called .args .k + l .before .loop .n < 5_242_880) × (l .before .loop .«open» < 5_242_880)
+  far =
+      let p = called .pre .1 .1 .1 .1 .1 .0 in
+      (p .0, omega (arith, p .0, more), omega (arith, p .0, p .1 .1, more, so-far .few), omega (arith, p .0, p .1 .0, more, l .before .loop .inv .1))
+
+-- The cut at hand.
+module _ (n : tie.After-next-token Inv-loop μ-loop) where
+  cut-is : (x : Cut) → n .next-token .result ≡ x → cutNamed (called (n .before) .args .write) (cut (drop (at (n .before)) (line (n .before)))) ≡ cutOf x
+  cut-is x e = sym (n .next-token .ensures) ∙ ap cutOf e
+
+-- The token at hand.
+module _ (t : tie.After-put-token-arg Inv-loop μ-loop) where
+  abbrev here : tie.In-loop Inv-loop μ-loop
+  here = t .before .before .before .before .before
+
+  abbrev kind : ℕ
+  kind = t .before .before .kind .given .0 .0
+
+  abbrev size : ℕ
+  size = t .before .before .kind .given .0 .1 .0
+
+  token : TokenAt (called here .args .write) (line here) (at here) kind size
+  token = token-at (called here .args .write) (line here) (at here) kind size (more here) (cut-is (t .before .before .before .before) _ (t .before .before .kind .given .1))
+
+-- The failure at hand.
+module _ (c : tie.After-struct-known Inv-loop μ-loop) where
+  abbrev cut-at : tie.After-next-token Inv-loop μ-loop
+  cut-at = c .before .before .before .before
+
+  abbrev failure : Failure
+  failure = failureOf (c .before .before .f .given .0 .0)
+
+  fails-at : cut (drop (at (cut-at .before)) (line (cut-at .before))) ≡ fails failure
+  fails-at = named-fails (called (cut-at .before) .args .write) _ failure (cut-is cut-at _ (c .before .before .f .given .1))
+
 loop-holds : tie.Need-loop-holds Inv-loop μ-loop
 loop-holds c =
     let a = c .before .before .args in
@@ -29,152 +81,87 @@ loop-holds c =
 
 next-token-requires : tie.Need-next-token-requires Inv-loop μ-loop
 next-token-requires c κs =
-    let p = c .before .before .before .before .pre in
-    (p .0, (p .1 .0, (p .1 .1 .0, (p .1 .1 .1 .0, (p .1 .1 .1 .1 .0, c .loop-test .taken)))))
+    let p = called c .pre in
+    (p .0, (p .1 .0, (p .1 .1 .0, (p .1 .1 .1 .0, (p .1 .1 .1 .1 .0, more c)))))
 
 enum-told : tie.Need-enum-told Inv-loop μ-loop
 enum-told c = search needs
 
 add-at : tie.Need-add-at Inv-loop μ-loop
-add-at c = omega (arith, c .before .before .before .loop-test .taken)
+add-at c = omega (arith, more (c .before .before .before))
 
 loop-less : tie.Need-loop-less Inv-loop μ-loop
-loop-less c = omega (arith, c .before .before .before .loop-test .taken)
+loop-less c = omega (arith, more (c .before .before .before))
 
 loop-again : tie.Need-loop-again Inv-loop μ-loop
 loop-again c =
-    let a = c .before .before .before .before .before .before .before .args in
-    let v = c .before .before .before .before .loop .inv .0 in
-    let at = c .before .before .before .before .loop .at in
-    let l = a .line .now in
-    let h = c .before .before .before .loop-test .taken in
-    let e = named-blank (a .write) (cut (drop at l)) (sym (c .before .before .next-token .ensures) ∙ ap cutOf (c .enum-told .given .1)) in
-    (past-blank l (a .depth) (a .position) (a .number) (a .k) (a .write) (a .tokens .now) v h e, omega (arith, c .before .before .before .before .loop .inv .1))
+    let n = c .before .before in
+    let l = n .before in
+    (past-blank (so-far l) (more l) (named-blank (called l .args .write) _ (cut-is n _ (c .enum-told .given .1))), omega (arith, l .before .loop .inv .1))
 
 enum-told-2 : tie.Need-enum-told-2 Inv-loop μ-loop
 enum-told-2 c = search needs
 
 same-length : tie.Need-same-length Inv-loop μ-loop
-same-length c =
-    let a = c .before .before .before .before .before .before .before .args in
-    let v = c .before .before .before .before .loop .inv .0 in
-    let at = c .before .before .before .before .loop .at in
-    let l = a .line .now in
-    let h = c .before .before .before .loop-test .taken in
-    same-tokens l (a .depth) (a .position) (a .number) (a .k) (a .write) (a .tokens .now) v
+same-length c = same-tokens (so-far (c .before .before .before))
 
 returns : tie.Need-returns Inv-loop μ-loop
 returns c =
-    let a = c .before .before .before .before .before .before .before .args in
-    let v = c .before .before .before .before .loop .inv .0 in
-    let at = c .before .before .before .before .loop .at in
-    let l = a .line .now in
-    let h = c .before .before .before .loop-test .taken in
-    let e = named-comment (a .write) (cut (drop at l)) (sym (c .before .before .next-token .ensures) ∙ ap cutOf (c .enum-told2 .given .1)) in
-    ended l (a .depth) (a .position) (a .number) (a .k) (a .write) (a .tokens .now) v (at-comment l (a .depth) (a .position) (a .number) (a .k) (a .write) (a .tokens .now) v h e)
+    let n = c .before .before in
+    let l = n .before in
+    ended (so-far l) (at-comment (so-far l) (more l) (named-comment (called l .args .write) _ (cut-is n _ (c .enum-told2 .given .1))))
 
 enum-known-kind : tie.Need-enum-known-kind Inv-loop μ-loop
 enum-known-kind c = search needs
 
 add-put-token : tie.Need-add-put-token Inv-loop μ-loop
-add-put-token c =
-    let p = c .before .before .before .before .before .before .before .before .before .pre .1 .1 .1 .1 .1 .0 in
-    omega (arith, p .0, p .1 .1, c .before .before .before .before .before .loop-test .taken, c .before .before .before .before .before .before .loop .inv .0 .few)
+add-put-token c = omega (arith, far (here c))
 
 cast-put-token : tie.Need-cast-put-token Inv-loop μ-loop
-cast-put-token c =
-    let p = c .before .before .before .before .before .before .before .before .before .pre .1 .1 .1 .1 .1 .0 in
-    omega (arith, p .0, p .1 .1, c .before .before .before .before .before .loop-test .taken, c .before .before .before .before .before .before .loop .inv .0 .few)
+cast-put-token c = omega (arith, far (here c))
 
 add-put-token-2 : tie.Need-add-put-token-2 Inv-loop μ-loop
-add-put-token-2 c =
-    let p = c .before .before .before .before .before .before .before .before .before .pre .1 .1 .1 .1 .1 .0 in
-    omega (arith, p .0, p .1 .1, c .before .before .before .before .before .loop-test .taken, c .before .before .before .before .before .before .loop .inv .0 .few)
+add-put-token-2 c = omega (arith, far (here c))
 
 cast-put-token-2 : tie.Need-cast-put-token-2 Inv-loop μ-loop
-cast-put-token-2 c =
-    let a = c .before .before .before .before .before .before .before .before .before .args in
-    let v = c .before .before .before .before .before .before .loop .inv .0 in
-    let at = c .before .before .before .before .before .before .loop .at in
-    let l = a .line .now in
-    let h = c .before .before .before .before .before .loop-test .taken in
-    let kind = c .before .before .kind .given .0 .0 in
-    let size = c .before .before .kind .given .0 .1 .0 in
-    let t = token-at (a .write) l at kind size h (sym (c .before .before .before .before .next-token .ensures) ∙ ap cutOf (c .before .before .kind .given .1)) in
-    let p = c .before .before .before .before .before .before .before .before .before .pre .1 .1 .1 .1 .1 .0 in
-    omega (arith, p .0, t .in-line)
+cast-put-token-2 c = omega (arith, far (here c) .0, token c .in-line)
 
 cast-put-token-3 : tie.Need-cast-put-token-3 Inv-loop μ-loop
-cast-put-token-3 c =
-    let p = c .before .before .before .before .before .before .before .before .before .pre .1 .1 .1 .1 .1 .0 in
-    omega (arith, p .0, p .1 .1, c .before .before .before .before .before .loop-test .taken, c .before .before .before .before .before .before .loop .inv .0 .few)
+cast-put-token-3 c = omega (arith, far (here c))
 
 add-put-token-3 : tie.Need-add-put-token-3 Inv-loop μ-loop
-add-put-token-3 c =
-    let p = c .before .before .before .before .before .before .before .before .before .pre .1 .1 .1 .1 .1 .0 in
-    omega (arith, p .0, p .1 .1, c .before .before .before .before .before .loop-test .taken, c .before .before .before .before .before .before .loop .inv .0 .few)
+add-put-token-3 c = omega (arith, far (here c))
 
 put-token-requires : tie.Need-put-token-requires Inv-loop μ-loop
 put-token-requires c κs =
-    let a = c .before .before .before .before .before .before .before .before .before .args in
-    let v = c .before .before .before .before .before .before .loop .inv .0 in
-    let at = c .before .before .before .before .before .before .loop .at in
-    let l = a .line .now in
-    let h = c .before .before .before .before .before .loop-test .taken in
-    let kind = c .before .before .kind .given .0 .0 in
-    let size = c .before .before .kind .given .0 .1 .0 in
-    let t = token-at (a .write) l at kind size h (sym (c .before .before .before .before .next-token .ensures) ∙ ap cutOf (c .before .before .kind .given .1)) in
+    let l = here c in
+    let a = called l .args in
     λ w.
-    let r = all-room (cutsFrom 0 0 l) (a .k) (length (a .tokens .now)) (c .before .before .before .before .before .before .before .before .before .pre .1 .1 .1 .1 .1 .1 w) in
-    omega (arith, r .2, room-for l (a .depth) (a .position) (a .number) (a .k) (a .write) (a .tokens .now) v h (t .real) size (t .is) (r .0) (r .1), same-tokens l (a .depth) (a .position) (a .number) (a .k) (a .write) (a .tokens .now) v)
+    let r = all-room (cutsFrom 0 0 (line l)) (a .k) (length (a .tokens .now)) (called l .pre .1 .1 .1 .1 .1 .1 w) in
+    omega (arith, r .2, room-for (so-far l) (more l) (token c .real) (size c) (token c .is) (r .0) (r .1), same-tokens (so-far l))
+
+abbrev token-of : tie.After-depth-by Inv-loop μ-loop → tie.After-put-token-arg Inv-loop μ-loop
+token-of c = c .before .before .before .before
 
 depth-by-requires : tie.Need-depth-by-requires Inv-loop μ-loop
-depth-by-requires c κs =
-    let p = c .before .before .before .before .before .before .before .before .before .before .before .before .pre .1 .1 .1 .1 .1 .0 in
-    omega (arith, p .0, p .1 .0, c .before .before .before .before .before .before .before .before .loop-test .taken, c .before .before .before .before .before .before .before .before .before .loop .inv .1)
+depth-by-requires c κs = omega (arith, far (here (c .before .before .before)))
 
 add-n : tie.Need-add-n Inv-loop μ-loop
-add-n c =
-    let p = c .before .before .before .before .before .before .before .before .before .before .before .before .before .pre .1 .1 .1 .1 .1 .0 in
-    omega (arith, p .0, c .before .before .before .before .before .before .before .before .before .loop-test .taken, c .before .before .before .before .before .before .before .before .before .before .loop .inv .0 .few)
+add-n c = omega (arith, far (here (token-of c)))
 
 add-at-2 : tie.Need-add-at-2 Inv-loop μ-loop
-add-at-2 c =
-    let a = c .before .before .before .before .before .before .before .before .before .before .before .before .before .args in
-    let v = c .before .before .before .before .before .before .before .before .before .before .loop .inv .0 in
-    let at = c .before .before .before .before .before .before .before .before .before .before .loop .at in
-    let l = a .line .now in
-    let h = c .before .before .before .before .before .before .before .before .before .loop-test .taken in
-    let kind = c .before .before .before .before .before .before .kind .given .0 .0 in
-    let size = c .before .before .before .before .before .before .kind .given .0 .1 .0 in
-    let t = token-at (a .write) l at kind size h (sym (c .before .before .before .before .before .before .before .before .next-token .ensures) ∙ ap cutOf (c .before .before .before .before .before .before .kind .given .1)) in
-    let p = c .before .before .before .before .before .before .before .before .before .before .before .before .before .pre .1 .1 .1 .1 .1 .0 in
-    omega (arith, p .0, t .in-line)
+add-at-2 c = omega (arith, far (here (token-of c)) .0, token (token-of c) .in-line)
 
 loop-less-2 : tie.Need-loop-less-2 Inv-loop μ-loop
-loop-less-2 c =
-    let a = c .before .before .before .before .before .before .before .before .before .before .before .before .before .args in
-    let v = c .before .before .before .before .before .before .before .before .before .before .loop .inv .0 in
-    let at = c .before .before .before .before .before .before .before .before .before .before .loop .at in
-    let l = a .line .now in
-    let h = c .before .before .before .before .before .before .before .before .before .loop-test .taken in
-    let kind = c .before .before .before .before .before .before .kind .given .0 .0 in
-    let size = c .before .before .before .before .before .before .kind .given .0 .1 .0 in
-    let t = token-at (a .write) l at kind size h (sym (c .before .before .before .before .before .before .before .before .next-token .ensures) ∙ ap cutOf (c .before .before .before .before .before .before .kind .given .1)) in
-    omega (arith, t .some-bytes, t .in-line, h)
+loop-less-2 c = omega (arith, token (token-of c) .some-bytes, more (here (token-of c)))
 
 loop-again-2 : tie.Need-loop-again-2 Inv-loop μ-loop
 loop-again-2 c =
-    let a = c .before .before .before .before .before .before .before .before .before .before .before .before .before .args in
-    let v = c .before .before .before .before .before .before .before .before .before .before .loop .inv .0 in
-    let at = c .before .before .before .before .before .before .before .before .before .before .loop .at in
-    let l = a .line .now in
-    let h = c .before .before .before .before .before .before .before .before .before .loop-test .taken in
-    let kind = c .before .before .before .before .before .before .kind .given .0 .0 in
-    let size = c .before .before .before .before .before .before .kind .given .0 .1 .0 in
-    let t = token-at (a .write) l at kind size h (sym (c .before .before .before .before .before .before .before .before .next-token .ensures) ∙ ap cutOf (c .before .before .before .before .before .before .kind .given .1)) in (
-      past-token l (a .depth) (a .position) (a .number) (a .k) (a .write) (a .tokens .now) v h (t .real) kind size (t .is) (t .named) _ (c .before .before .before .put-token .ensures) _ (c .depth-by .ensures),
-      omega (arith, c .before .before .before .before .before .before .before .before .before .before .loop .inv .1, c .depth-by .ensures, depth-by-le (c .before .before .before .before .before .before .before .before .before .before .loop .«open») kind, t .some-bytes),
+    let t = token-of c in
+    let l = here t in
+    let x = token t in (
+      past-token (so-far l) (more l) (x .real) (kind t) (size t) (x .is) (x .named) _ (c .before .before .before .put-token .ensures) _ (c .depth-by .ensures),
+      omega (arith, l .before .loop .inv .1, c .depth-by .ensures, depth-by-le (l .before .loop .«open») (kind t), x .some-bytes),
     )
 
 enum-known-f : tie.Need-enum-known-f Inv-loop μ-loop
@@ -182,47 +169,24 @@ enum-known-f c = search needs
 
 add-t32 : tie.Need-add-t32 Inv-loop μ-loop
 add-t32 c =
-    let a = c .before .before .before .before .before .before .before .before .before .args in
-    let v = c .before .before .before .before .before .before .loop .inv .0 in
-    let at = c .before .before .before .before .before .before .loop .at in
-    let l = a .line .now in
-    let h = c .before .before .before .before .before .loop-test .taken in
-    let f = failureOf (c .before .before .f .given .0 .0) in
-    let e = named-fails (a .write) (cut (drop at l)) f (sym (c .before .before .before .before .next-token .ensures) ∙ ap cutOf (c .before .before .f .given .1)) in
-    let p = c .before .before .before .before .before .before .before .before .before .pre .1 .1 .1 .1 .1 .0 in
-    omega (arith, p .0, failure-at l at f h e)
+    let l = cut-at c .before in
+    omega (arith, far l .0, failure-at (line l) (at l) (failure c) (more l) (fails-at c))
 
 same-length-2 : tie.Need-same-length-2 Inv-loop μ-loop
-same-length-2 c =
-    let a = c .before .before .before .before .before .before .before .before .before .args in
-    let v = c .before .before .before .before .before .before .loop .inv .0 in
-    let at = c .before .before .before .before .before .before .loop .at in
-    let l = a .line .now in
-    let h = c .before .before .before .before .before .loop-test .taken in
-    same-tokens l (a .depth) (a .position) (a .number) (a .k) (a .write) (a .tokens .now) v
+same-length-2 c = same-tokens (so-far (cut-at c .before))
 
 returns-2 : tie.Need-returns-2 Inv-loop μ-loop
 returns-2 c =
-    let a = c .before .before .before .before .before .before .before .before .before .args in
-    let v = c .before .before .before .before .before .before .loop .inv .0 in
-    let at = c .before .before .before .before .before .before .loop .at in
-    let l = a .line .now in
-    let h = c .before .before .before .before .before .loop-test .taken in
-    let f = failureOf (c .before .before .f .given .0 .0) in
-    let e = named-fails (a .write) (cut (drop at l)) f (sym (c .before .before .before .before .next-token .ensures) ∙ ap cutOf (c .before .before .f .given .1)) in
-    stopped l (a .depth) (a .position) (a .number) (a .k) (a .write) (a .tokens .now) v (movedBy at f) (length (a .tokens .now)) (at-failure l (a .depth) (a .position) (a .number) (a .k) (a .write) (a .tokens .now) v h f e) (c .before .before .before .before .before .before .before .before .before .pre .1 .1 .1 .1 .1 .1)
+    let l = cut-at c .before in
+    stopped (so-far l) (movedBy (at l) (failure c)) _ (at-failure (so-far l) (more l) (failure c) (fails-at c)) (called l .pre .1 .1 .1 .1 .1 .1)
 
 same-length-3 : tie.Need-same-length-3 Inv-loop μ-loop
-same-length-3 c =
-    let a = c .before .before .before .before .args in
-    same-tokens (a .line .now) (a .depth) (a .position) (a .number) (a .k) (a .write) (a .tokens .now) (c .before .loop .inv .0)
+same-length-3 c = same-tokens (c .before .loop .inv .0)
 
 returns-3 : tie.Need-returns-3 Inv-loop μ-loop
 returns-3 c =
-    let a = c .before .before .before .before .args in
-    let l = a .line .now in
     let v = c .before .loop .inv .0 in
-    ended l (a .depth) (a .position) (a .number) (a .k) (a .write) (a .tokens .now) v (at-end l (a .depth) (a .position) (a .number) (a .k) (a .write) (a .tokens .now) v (c .loop-test .left))
+    ended v (at-end v (c .loop-test .left))
 
 pub cut-line-spec : {M : Type 1} → statement M
 cut-line-spec =
