@@ -1,16 +1,18 @@
 -- `reading::next_line` meets its contract.
 -- Assumes nothing.
 use Prim.Native.Nat.{ℕ, _+_, _-_, _*_, _≤_, _<_}
-use mathlib.Core.Path.{_≡_, refl, sym, ap, subst, _∙_}
+use mathlib.Core.Path.{_≡_, sym, ap, subst, _∙_}
 use mathlib.Core.List.{List}
 use native.Mathlib.Omega.{arith}
 use lib.ListN.{length, take, drop, length-drop, length-take}
 use Rattle.rules.specs.Lists.{run}
-use Rattle.rules.specs.Line.{readLine}
+use Rattle.rules.specs.Line as rules-line
+use Rattle.rules.specs.Line.{LineReply, lineHalts, failed, readLine}
 use Rattle.rules.specs.Reading.{notLF}
-use Rattle.rules.specs.Records.{tokenWords}
+use Rattle.rules.specs.Records.{lineRecord, tokenWords}
 use Rattle.rules.proofs.ListLaws.{run-le}
 use Rattle.rules.proofs.FailureLaws.{failure-inside}
+use Rattle.rules.proofs.LoopLaws.{lineAt}
 use Rattle.laws.specs.Puts.{putIf}
 use Rattle.cut.specs.Cuts.{failureOf}
 use Rattle.line.specs.States.{stateOf}
@@ -19,6 +21,80 @@ use Rattle.reading.proofs.Lines.{line-read, line-fails, line-deep, next
 use borrow.Author.Needs.{needs}
 use Rattle.reading.proofs.next_line.Statement.{statement}
 use Rattle.reading.proofs.next_line.Tie as tie
+
+-- What the function was called with.
+module _ (s : tie.Start) where
+  abbrev text : List ℕ
+  text = s .args .text .now
+
+  abbrev at : ℕ
+  at = s .args .at
+
+  abbrev z : rules-line.State
+  z = stateOf (s .args .s) (s .args .widths .now)
+
+  abbrev line-here : List ℕ
+  line-here = lineAt text at
+
+  some : at < length text
+  some = s .pre .1 .1 .1 .1 .1 .0 .0
+
+  few-bytes : s .args .base + length text ≤ 1_048_576
+  few-bytes = s .pre .1 .1 .1 .1 .1 .0 .1 .0
+
+  few-lines : s .args .m ≤ 1_048_576
+  few-lines = s .pre .1 .1 .1 .1 .1 .0 .1 .1 .0
+
+-- The line ends where `line_end` says.
+module _ (e : tie.After-line-end) where
+  abbrev start : tie.Start
+  start = e .before .before .before .before .before .before .before .before .before .before
+
+  abbrev line : List ℕ
+  line = take (e .line-end .result - at start) (drop (at start) (text start))
+
+  line-is : line ≡ line-here start
+  line-is = slice-is (text start) (at start) _ (e .line-end .ensures)
+
+  line-inside : at start + length line ≤ length (text start)
+  line-inside =
+      let rest = drop (at start) (text start) in
+      omega (arith, ap length line-is, length-take (run notLF rest) rest, length-drop (at start) (text start), some start)
+
+-- The line is read, and its records are put.
+module _ (r : tie.After-read-line) where
+  abbrev ended : tie.After-line-end
+  ended = r .before .before .before .before
+
+  abbrev here : tie.Start
+  here = start ended
+
+  abbrev reply : LineReply
+  reply = readLine 16 (z here) (line ended)
+
+  reply-is : readLine 16 (z here) (line-here here) ≡ reply
+  reply-is = ap (readLine 16 (z here)) (sym (line-is ended))
+
+  written : let a = here .args in
+      (ended .before .before .before .put-line .last .0 ≡ putIf (a .write) (a .lines .now) (21 * a .m) (lineRecord (a .base + a .at) (a .k) (z here)))
+      × (r .read-line .last .1 .1 .1 .1 .1 .1 .0 ≡ putIf (a .write) (a .tokens .now) (5 * a .k) (tokenWords (a .base + a .at) (a .m + 1) (tokensIn (readLine 16 (z here) (line-here here)))))
+  written =
+      let a = here .args in
+      (ended .before .before .before .put-line .ensures, r .read-line .ensures .1 .1 ∙ ap (λ (y : LineReply). putIf (a .write) (a .tokens .now) (5 * a .k) (tokenWords (a .base + a .at) (a .m + 1) (tokensIn y))) (sym reply-is))
+
+abbrev reads-at : tie.After-past-lf → tie.After-read-line
+reads-at c = c .before .before .before .before .before .before .before .before
+
+-- It fails.
+module _ (c : tie.After-known-told2) where
+  abbrev fails-at : tie.After-read-line
+  fails-at = c .before .before .before .before .before .before .before
+
+  fails-as : reply fails-at ≡ lineHalts (failed (failureOf (c .before .f .given .0 .0)))
+  fails-as = line-fails _ _ (reply fails-at) (fails-at .read-line .ensures .0) _ (c .before .f .given .1)
+
+abbrev deep-at : tie.After-enum-told → tie.After-read-line
+deep-at c = c .before .before .before .before .before .before
 
 add-position : tie.Need-add-position
 add-position c = search needs
@@ -31,8 +107,8 @@ cast-put-line-2 c = search needs
 
 put-line-requires : tie.Need-put-line-requires
 put-line-requires c κs =
-    let p = c .before .before .before .before .before .before .pre in
-    ((p .1 .1 .1 .1 .1 .1 .0 .1 .1, p .1 .1 .1 .1 .1 .1 .0 .1 .0), λ w. p .1 .1 .1 .1 .1 .1 .1 w .0)
+    let p = c .before .before .before .before .before .before .pre .1 .1 .1 .1 .1 .1 in
+    ((p .0 .1 .1, p .0 .1 .0), λ w. p .1 w .0)
 
 line-end-requires : tie.Need-line-end-requires
 line-end-requires c κs = search needs
@@ -45,8 +121,8 @@ part-read-line-start c = search needs
 
 part-read-line-end : tie.Need-part-read-line-end
 part-read-line-end c =
-    let a = c .before .before .before .before .before .before .before .before .before .before .args in
-    omega (arith, c .line-end .ensures, c .before .before .before .before .before .before .before .before .before .before .pre .1 .1 .1 .1 .1 .0 .0, run-le notLF (drop (a .at) (a .text .now)), length-drop (a .at) (a .text .now))
+    let s = start c in
+    omega (arith, c .line-end .ensures, some s, run-le notLF (drop (at s) (text s)), length-drop (at s) (text s))
 
 cast-read-line : tie.Need-cast-read-line
 cast-read-line c = search needs
@@ -59,12 +135,10 @@ add-read-line c = search needs
 
 read-line-requires : tie.Need-read-line-requires
 read-line-requires c κs =
-    let line-end = c .before .before .before .line-end in
-    let a = c .before .before .before .before .before .before .before .before .before .before .before .before .before .args in
-    let p = c .before .before .before .before .before .before .before .before .before .before .before .before .before .pre in
-    let end = line-end .result in
-    let here = slice-is (a .text .now) (a .at) end (line-end .ensures) in
-    let z = stateOf (a .s) (a .widths .now) in (
+    let e = c .before .before .before in
+    let s = start e in
+    let p = s .pre in
+    let q = p .1 .1 .1 .1 .1 .1 in (
       p .0,
       (
         p .1 .0,
@@ -75,11 +149,8 @@ read-line-requires c κs =
             (
               p .1 .1 .1 .1 .0,
               (
-                (omega (arith, ap length here, length-take (run notLF (drop (a .at) (a .text .now))) (drop (a .at) (a .text .now)), length-drop (a .at) (a .text .now), p .1 .1 .1 .1 .1 .0 .0, p .1 .1 .1 .1 .1 .0 .1 .0), (p .1 .1 .1 .1 .1 .1 .0 .0, p .1 .1 .1 .1 .1 .0 .1 .1 .1)),
-                (
-                  (p .1 .1 .1 .1 .1 .1 .0 .1 .1, p .1 .1 .1 .1 .1 .1 .0 .1 .0),
-                  λ w. subst (λ (l : List ℕ). RoomIn (readLine 16 z l) (a .k) (length (a .tokens .now))) (sym here) (p .1 .1 .1 .1 .1 .1 .1 w .1),
-                ),
+                (omega (arith, line-inside e, few-bytes s), (q .0 .0, p .1 .1 .1 .1 .1 .0 .1 .1 .1)),
+                ((q .0 .1 .1, q .0 .1 .0), λ w. subst (λ (l : List ℕ). RoomIn (readLine 16 (z s) l) (s .args .k) (length (s .args .tokens .now))) (sym (line-is e)) (q .1 w .1)),
               ),
             ),
           ),
@@ -97,19 +168,13 @@ enum-known-f : tie.Need-enum-known-f
 enum-known-f c = search needs
 
 add-failure-record : tie.Need-add-failure-record
-add-failure-record c = omega (arith, c .before .before .before .before .before .before .before .before .before .before .before .before .before .before .before .before .before .before .before .before .before .pre .1 .1 .1 .1 .1 .0 .1 .1 .0)
+add-failure-record c = omega (arith, few-lines (here (fails-at c)))
 
 failure-record-requires : tie.Need-failure-record-requires
 failure-record-requires c κs =
-    let line-end = c .before .before .before .before .before .before .before .before .before .before .before .line-end in
-    let p = c .before .before .before .before .before .before .before .before .before .before .before .before .before .before .before .before .before .before .before .before .before .pre in
-    let a = c .before .before .before .before .before .before .before .before .before .before .before .before .before .before .before .before .before .before .before .before .before .args in
-    let end = line-end .result in
-    let l = take (end - a .at) (drop (a .at) (a .text .now)) in
-    let here = slice-is (a .text .now) (a .at) end (line-end .ensures) in
-    let z = stateOf (a .s) (a .widths .now) in
-    let e = line-fails _ _ (readLine 16 z l) (c .before .before .before .before .before .before .before .read-line .ensures .0) _ (c .before .f .given .1) in
-    (omega (arith, failure-inside 16 z l (failureOf (c .before .f .given .0 .0)) e, ap length here, length-take (run notLF (drop (a .at) (a .text .now))) (drop (a .at) (a .text .now)), length-drop (a .at) (a .text .now), p .1 .1 .1 .1 .1 .0 .0, p .1 .1 .1 .1 .1 .0 .1 .0), omega (arith, p .1 .1 .1 .1 .1 .0 .1 .1 .0))
+    let e = ended (fails-at c) in
+    let s = start e in
+    (omega (arith, failure-inside 16 (z s) (line e) _ (fails-as c), line-inside e, few-bytes s), omega (arith, few-lines s))
 
 enum-told : tie.Need-enum-told
 enum-told c = search needs
@@ -125,18 +190,12 @@ same-length-3 c = search needs
 
 returns : tie.Need-returns
 returns c =
-    let line-end = c .before .before .before .before .before .before .before .before .before .before .before .before .line-end in
-    let n = c .before .before .n in
-    let read-line = c .before .before .before .before .before .before .before .before .read-line in
-    let a = c .before .before .before .before .before .before .before .before .before .before .before .before .before .before .before .before .before .before .before .before .before .before .args in
-    let end = line-end .result in
-    let l = take (end - a .at) (drop (a .at) (a .text .now)) in
-    let here = slice-is (a .text .now) (a .at) end (line-end .ensures) in
-    let z = stateOf (a .s) (a .widths .now) in
-    let x = line-read _ _ (readLine 16 z l) (read-line .ensures .0) _ _ (n .given .1) in (
-      (x .0, ap (readLine 16 z) (sym here) ∙ x .1, x .2, c .past-lf .ensures ∙ next-start (a .text .now) (a .at) end (c .before .before .before .before .before .before .before .before .before .before .before .before .before .before .before .before .before .before .before .before .before .before .pre .1 .1 .1 .1 .1 .0 .0) (line-end .ensures), subst LevelsWithin (n .given .1) (read-line .ensures .1 .0)),
-      (c .before .before .before .before .before .before .before .before .before .before .before .before .before .before .before .put-line .ensures, read-line .ensures .1 .1 ∙ ap (λ (y : List ℕ). putIf (a .write) (a .tokens .now) (5 * a .k) (tokenWords (a .base + a .at) (a .m + 1) (tokensIn (readLine 16 z y)))) here),
-    )
+    let r = reads-at c in
+    let s = here r in
+    let known = c .before .before .n .given .1 in
+    let x = line-read _ _ (reply r) (r .read-line .ensures .0) _ _ known in
+    let next = c .past-lf .ensures ∙ next-start (text s) (at s) _ (some s) (ended r .line-end .ensures) in
+    ((x .0, reply-is r ∙ x .1, x .2, next, subst LevelsWithin known (r .read-line .ensures .1 .0)), written r)
 
 same-length-4 : tie.Need-same-length-4
 same-length-4 c = search needs
@@ -149,18 +208,8 @@ same-length-6 c = search needs
 
 returns-2 : tie.Need-returns-2
 returns-2 c =
-    let f = c .before .before .f in
-    let line-end = c .before .before .before .before .before .before .before .before .before .before .before .before .line-end in
-    let read-line = c .before .before .before .before .before .before .before .before .read-line in
-    let a = c .before .before .before .before .before .before .before .before .before .before .before .before .before .before .before .before .before .before .before .before .before .before .args in
-    let end = line-end .result in
-    let l = take (end - a .at) (drop (a .at) (a .text .now)) in
-    let here = slice-is (a .text .now) (a .at) end (line-end .ensures) in
-    let z = stateOf (a .s) (a .widths .now) in
-    let e = line-fails _ _ (readLine 16 z l) (read-line .ensures .0) _ (f .given .1) in (
-      (failureOf (f .given .0 .0), ap (readLine 16 z) (sym here) ∙ e, c .failure-record .ensures),
-      (c .before .before .before .before .before .before .before .before .before .before .before .before .before .before .before .put-line .ensures, read-line .ensures .1 .1 ∙ ap (λ (y : List ℕ). putIf (a .write) (a .tokens .now) (5 * a .k) (tokenWords (a .base + a .at) (a .m + 1) (tokensIn (readLine 16 z y)))) here),
-    )
+    let r = fails-at (c .before) in
+    ((_, reply-is r ∙ fails-as (c .before), c .failure-record .ensures), written r)
 
 same-length-7 : tie.Need-same-length-7
 same-length-7 c = search needs
@@ -173,17 +222,8 @@ same-length-9 c = search needs
 
 returns-3 : tie.Need-returns-3
 returns-3 c =
-    let line-end = c .before .before .before .before .before .before .before .before .before .before .line-end in
-    let read-line = c .before .before .before .before .before .before .read-line in
-    let a = c .before .before .before .before .before .before .before .before .before .before .before .before .before .before .before .before .before .before .before .before .args in
-    let end = line-end .result in
-    let l = take (end - a .at) (drop (a .at) (a .text .now)) in
-    let here = slice-is (a .text .now) (a .at) end (line-end .ensures) in
-    let z = stateOf (a .s) (a .widths .now) in
-    let e = line-deep _ _ (readLine 16 z l) (read-line .ensures .0) (c .enum-told .given .1) in (
-      ap (readLine 16 z) (sym here) ∙ e,
-      (c .before .before .before .before .before .before .before .before .before .before .before .before .before .put-line .ensures, read-line .ensures .1 .1 ∙ ap (λ (y : List ℕ). putIf (a .write) (a .tokens .now) (5 * a .k) (tokenWords (a .base + a .at) (a .m + 1) (tokensIn (readLine 16 z y)))) here),
-    )
+    let r = deep-at c in
+    (reply-is r ∙ line-deep _ _ (reply r) (r .read-line .ensures .0) (c .enum-told .given .1), written r)
 
 pub next-line-spec : {M : Type 1} → statement M
 next-line-spec =
