@@ -1,8 +1,8 @@
 -- Reading again: what was read so far, one line more, and how it ends.
 -- Assumes nothing.
-use Prim.Native.Nat.{ℕ, zero, suc, _+_, _-_, _*_, _≤_, _<_}
+use Prim.Native.Nat.{ℕ, suc, _+_, _-_, _≤_, _<_}
 use mathlib.Core.Path.{_≡_, refl, sym, ap, subst, _∙_}
-use mathlib.Core.Bool.{Bool, true, false, _&&_}
+use mathlib.Core.Bool.{true, false, _&&_}
 use mathlib.Core.List.{List, [], _∷_, _++_}
 use mathlib.Core.Logic.{⊎-elim}
 use native.Mathlib.Omega.{arith}
@@ -14,18 +14,18 @@ use borrow.Author.Tests.{ltb-true, eqb-true}
 use Rattle.rules.specs.Lists.{same}
 use Rattle.rules.specs.Failure.{Failure, failureRecord}
 use Rattle.rules.specs.Line as rules-line
-use Rattle.rules.specs.Line.{Token, Halt, failed, overLimit, LineReply, lineReads, lineHalts, readLine}
+use Rattle.rules.specs.Line.{Token, Halt, failed, overLimit, lineReads, lineHalts, readLine}
 use Rattle.rules.specs.Reading.{linesOf, Entry, entry, reads, halts, readFrom, byteSum, tokenSum}
 use Rattle.rules.specs.Replies.{maxLevels}
 use Rattle.rules.specs.Records.{stateWords}
-use Rattle.rules.specs.StopRule.{Edit, edited, keptFrom, marksFrom, sameState, isStop, rereadCount}
+use Rattle.rules.specs.StopRule.{edited, marksFrom, sameState, isStop}
 use Rattle.rules.proofs.ListLaws.{and-true}
-use Rattle.rules.proofs.LineLaws.{firstSize-le, firstSize-some}
+use Rattle.rules.proofs.LineLaws.{firstSize-le}
 use Rattle.rules.proofs.ReadingLaws.{stateAt, read-sizes, byteSum-append, tokenSum-append}
 use Rattle.rules.proofs.StateLaws.{sameState-words}
 use Rattle.rules.proofs.StopLaws.{mark}
 use Rattle.rules.proofs.MendLaws.{no-stop, kept-size, kept-length}
-use Rattle.rules.proofs.LoopLaws.{ReadTo, lineAt, sizeAt, read-start, read-line, fromLine, fromByte, fromState, RereadTo, reread-start, reread-test, reread-line, reread-stop, reread-end, reread-stuck}
+use Rattle.rules.proofs.LoopLaws.{ReadTo, lineAt, sizeAt, read-start, read-line, fromByte, RereadTo, reread-start, reread-test, reread-line, reread-stop, reread-end, reread-stuck}
 use Rattle.rules.proofs.BoundLaws.{GrownTo, read-grown}
 use Rattle.line.specs.declared.State.{State}
 use Rattle.line.specs.States.{stateOf}

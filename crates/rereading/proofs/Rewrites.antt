@@ -1,9 +1,8 @@
 -- Records of lines written one after another.
 -- Assumes nothing.
-use Prim.Native.Nat.{ℕ, zero, suc, _+_, _-_, _*_, _≤_, _<_}
+use Prim.Native.Nat.{ℕ, suc, _+_, _-_, _*_, _≤_, _<_}
 use mathlib.Core.Path.{_≡_, refl, sym, ap, subst, _∙_}
-use mathlib.Core.Bool.{true}
-use mathlib.Core.List.{List, [], _∷_, _++_, append-assoc, append-nil}
+use mathlib.Core.List.{List, [], _∷_, _++_, append-nil}
 use mathlib.Core.Logic.{⊎-elim}
 use native.Mathlib.Omega.{arith}
 use native.Mathlib.Nat.{eq-zero-or-pos}
@@ -11,11 +10,11 @@ use lib.ListN.{length, take, drop, length-append, length-drop, drop-of-length-le
 use lib.Seq.{sets, length-sets, take-append-add, take-nil, length-take-le}
 use Rattle.rules.specs.Line as rules-line
 use Rattle.rules.specs.Line.{Token, LineReply, lineReads, lineHalts, Halt, readLine}
-use Rattle.rules.specs.Reading.{Line, linesOf, content, Entry, entry, Reading, reads, halts, withEntry, readFrom, linesRead, byteSum, tokenSum}
+use Rattle.rules.specs.Reading.{Line, linesOf, content, Entry, entry, Reading, reads, halts, readFrom, linesRead, byteSum, tokenSum}
 use Rattle.rules.specs.Replies.{maxLevels}
 use Rattle.rules.specs.Records.{lineRecord, lineRecords, tokenWords, tokenRecords}
 use Rattle.rules.proofs.LineLaws.{lines-at, content-first, firstSize-le}
-use Rattle.rules.proofs.ReadingLaws.{withEntries, andThen, withEntries-reads, withEntries-halts, readFrom-append, Step, step, read-sizes, byteSum-append, tokenSum-append}
+use Rattle.rules.proofs.ReadingLaws.{withEntries, andThen, withEntries-reads, withEntries-halts, readFrom-append, step, read-sizes, tokenSum-append}
 use Rattle.rules.proofs.RecordLaws.{lineRecords-append, length-lineRecords, tokenRecords-append, length-tokenRecords}
 use Rattle.rules.proofs.LoopLaws.{ReadTo, lineAt, sizeAt, read-start, read-line}
 use Rattle.rules.proofs.BoundLaws.{GrownTo, read-grown}
