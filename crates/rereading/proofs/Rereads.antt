@@ -1,6 +1,6 @@
 -- Reading again: what was read so far, one line more, and how it ends.
 -- Assumes nothing.
-use Prim.Native.Nat.{ℕ, suc, _+_, _-_, _≤_, _<_}
+use Prim.Native.Nat.{ℕ, suc, _+_, _-_, _*_, _≤_, _<_}
 use mathlib.Core.Path.{_≡_, refl, sym, ap, subst, _∙_}
 use mathlib.Core.Bool.{true, false, _&&_}
 use mathlib.Core.List.{List, [], _∷_, _++_}
@@ -104,6 +104,14 @@ module _ {rest lines : List ℕ} {base i m b kept : ℕ} {z₀ : rules-line.Stat
 
   levels-few : length (z .widths) ≤ maxLevels
   levels-few = omega (arith, length-take-le (s .levels) widths (omega (arith, v .few, v .wide)), v .few)
+
+  -- the tokens up to the end of the next line are few
+  pub few-tokens : q < length rest → (ts : List Token) (z′ : rules-line.State) → readLine 16 z (lineAt rest q) ≡ lineReads ts z′ → k + length ts ≤ length (z₀ .widths) + 2 * length rest
+  unfolding tokenSum
+  few-tokens h ts z′ l =
+      let more : List Entry = entry z (sizeAt rest q) ts ∷ [] in
+      let g = read-grown maxLevels z₀ rest (q + sizeAt rest q) (v .es ++ more) z′ (read-line maxLevels z₀ rest q (v .es) z (v .to) ts z′ h l) in
+      omega (arith, g .tokens, tokenSum-append (v .es) more, v .sum, firstSize-le (drop q rest), length-drop q rest)
 
   module _ (h : q < length rest) (r : ℕ) (hr : ComparedWith rest lines base i m b kept z₀ q j r) (o : Old rest lines base i m b kept z₀) where
     compared-near : base + q ≤ kept → Compared rest lines base i m b kept z₀ o q r z

@@ -11,12 +11,10 @@ use borrow.Author.Needs.{needs}
 use Rattle.rules.specs.Line.{readLine}
 use Rattle.rules.proofs.LoopLaws.{lineAt, sizeAt}
 use Rattle.rules.proofs.LineLaws.{firstSize-some}
-use Rattle.line.specs.declared.State.{State}
 use Rattle.line.specs.States.{stateOf}
 use Rattle.reading.specs.declared.Step.{Step}
-use Rattle.reading.specs.declared.Step.the-variants as step
 use Rattle.reading.specs.Steps.{StepIs}
-use Rattle.rereading.proofs.Rereads.{ComeTo, come-start, grown, stopped, next-come, failed-come, deep-come, ended}
+use Rattle.rereading.proofs.Rereads.{ComeTo, come-start, grown, few-tokens, stopped, next-come, failed-come, deep-come, ended}
 use Rattle.rereading.proofs.reread_lines.Statement.{statement}
 use Rattle.rereading.proofs.reread_lines.Tie as tie
 
@@ -34,10 +32,7 @@ module _ (l : tie.At-loop Inv-loop μ-loop) where
   abbrev rest : List ℕ
   rest = start .args .rest .now
 
-  abbrev Come : List ℕ → ℕ → ℕ → ℕ → ℕ → State → Type 0
-  Come = let a = start .args in ComeTo rest (a .lines .now) (a .base) (a .i) (a .m) (a .b) (a .kept) (stateOf (a .first) (a .widths .now))
-
-  abbrev so-far : Come (l .loop .widths) (l .loop .q) (l .loop .c) (l .loop .k) (l .loop .j) (l .loop .s)
+  abbrev so-far : let a = start .args in let x = l .loop in ComeTo rest (a .lines .now) (a .base) (a .i) (a .m) (a .b) (a .kept) (stateOf (a .first) (a .widths .now)) (x .widths) (x .q) (x .c) (x .k) (x .j) (x .s)
   so-far = l .loop .inv .1
 
   few-bytes : start .args .base + length rest ≤ 1_048_576
@@ -77,12 +72,6 @@ module _ (n : tie.After-next-line Inv-loop μ-loop) where
 
   gave : (r : Step) → n .next-line .result ≡ r → Gave r
   gave r e = subst Gave e (n .next-line .ensures .0)
-
-  next : (q i : ℕ) (s : State) → n .next-line .result ≡ step.Reads q i s → Come here widths-now q (here .loop .c + 1) (here .loop .k + i) (compared .old-line .result) s
-  next q i s e =
-      let x = gave (step.Reads q i s) e in
-      let old = compared .old-line .ensures in
-      next-come (so-far here) more _ (old .0) (old .1) (sym (goes-on .before .stops-at .ensures) ∙ goes-on .if1 .left) _ _ _ _ (x .0) (x .1) (x .2) (x .3) (x .4) (kept-wide ∙ so-far here .wide)
 
 abbrev read-at : tie.After-known-told Inv-loop μ-loop → tie.After-next-line Inv-loop μ-loop
 read-at c = c .before .before .before .before .before .before .before
@@ -164,10 +153,11 @@ add-c c = omega (arith, far (here (read-at c)))
 
 add-k : tie.Need-add-k Inv-loop μ-loop
 add-k c =
-    let l = here (read-at c) in
+    let n = read-at c in
+    let l = here n in
     let p = start l .pre .1 .1 .1 .1 .1 .1 .1 .1 in
-    let v = next (read-at c) _ _ _ (c .before .next .given .1) in
-    omega (arith, grown v .tokens, v .sum, v .inside, few-bytes l, length-take-le (start l .args .first .levels) (start l .args .widths .now) (omega (arith, p .0, p .1)), p .0)
+    let x = gave n _ (c .before .next .given .1) in
+    omega (arith, few-tokens (so-far l) (more n) (x .0) _ (x .1), x .2, few-bytes l, length-take-le (start l .args .first .levels) (start l .args .widths .now) (omega (arith, p .0, p .1)), p .0)
 
 loop-less : tie.Need-loop-less Inv-loop μ-loop
 loop-less c =
@@ -178,9 +168,13 @@ loop-less c =
 loop-again : tie.Need-loop-again Inv-loop μ-loop
 loop-again c =
     let n = read-at c in
+    let l = here n in
     let kept = n .next-line .kept .1 .1 .1 .1 .1 .1 .1 .1 in
-    let none = here n .loop .inv .0 in
-    ((kept .0 ∙ none .0, kept .1 .0 ∙ none .1), next n _ _ _ (c .before .next .given .1))
+    let old = compared n .old-line .ensures in
+    let x = gave n _ (c .before .next .given .1) in (
+      (kept .0 ∙ l .loop .inv .0 .0, kept .1 .0 ∙ l .loop .inv .0 .1),
+      next-come (so-far l) (more n) _ (old .0) (old .1) (sym (goes-on n .before .stops-at .ensures) ∙ goes-on n .if1 .left) _ _ _ _ (x .0) (x .1) (x .2) (x .3) (x .4) (kept-wide n ∙ so-far l .wide),
+    )
 
 enum-known-f : tie.Need-enum-known-f Inv-loop μ-loop
 enum-known-f c = search needs
