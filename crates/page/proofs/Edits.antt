@@ -298,7 +298,7 @@ module _ (q : Lent) (ed : Edit) where
               → Answered q ed r′ text′ s lines′ tokens′
           unfolding replyOf after headerAfter
           accept-edit {text′ = text′} {lines′ = lines′} {tokens′ = tokens′} er et el ek =
-              let free : Free q u (done r (p .count)) = acceptance r (p .count) es lines-long tokens-long need-lines (ro .token-room) in
+              let free : Free q u (done r (p .count)) = acceptance r (p .count) es (omega (arith, pl .i-le, pl .lines-le, pl .m-le)) (omega (arith, ro .few)) lines-long tokens-long need-lines (ro .token-room) in
               let post = clear-post q ed (done r (p .count)) (ok .ranged .fit) open-gate free on-paper in
               let et′ : text′ ≡ overwrite u text = et ∙ ap (λ (x : List ℕ). sets text a (drop a x)) held ∙ back-over text u a (omega (arith, holds)) (omega (arith, es)) (front (ok .ranged)) in
               let el′ : lines′ ≡ overwrite (r .lines) lines =

@@ -13,7 +13,7 @@ use Rattle.rules.specs.Lists.{if_then_else_, bit, overwrite}
 use Rattle.rules.specs.Line.{initial, Halt, failed, overLimit}
 use Rattle.rules.specs.Reading.{linesOf, Reading, reads, halts, readFrom, byteSum}
 use Rattle.rules.specs.Failure.{failureRecord}
-use Rattle.rules.specs.Replies.{barge, Unread, Refusal, reading, short, unfit, Reply, numbered, accepted, linesBuffer, tokensBuffer, refusedIf, firstOf, unless}
+use Rattle.rules.specs.Replies.{maxBytes, isTooLong, barge, Unread, Refusal, reading, short, unfit, Reply, numbered, accepted, linesBuffer, tokensBuffer, refusedIf, firstOf, unless}
 use Rattle.rules.specs.Records.{lineNeed, tokenNeed, Records, recordsOf, recordTests, haltRefusal, recordedBy, FreshReading, recorded, unread, readLines}
 use Rattle.rules.specs.Page.{Page, Lent, Sizes, sizes, fits, pageText, Faithful, isFaithful}
 use Rattle.rules.specs.StopRule.{Edit, edited, rereadCount}
@@ -24,6 +24,7 @@ use Rattle.rules.proofs.BufferLaws.{length-overwrite, overwrite-take}
 use Rattle.rules.proofs.RecordLaws.{fresh-sizes}
 use Rattle.rules.proofs.PageLaws.{Fits, fits-true, true-fits, faithful-fits, fresh-lines, fresh-inverse, faithful-iff}
 use Rattle.rules.proofs.GateLaws.{Passed, stopsEarly, stopsLate, clear, gate-passed, Sound, isEarly, isLate, isDone, outcome-sound}
+use Rattle.rules.proofs.BoundLaws.{fresh-small}
 use Rattle.rules.proofs.HistoryLaws.{holds-faithful, holds-fits}
 
 -- The gate of a page.
@@ -74,9 +75,9 @@ unfolding haltRefusal
 halt-free q u p l (failed f) = failure (failureRecord p l f)
 halt-free q u p l overLimit = deep l
 
-stored-free : (q : Lent) (u : List ℕ) (count : ℕ) → Free q u (stored (sizes q) count (readLines barge u))
+stored-free : (q : Lent) (u : List ℕ) (count : ℕ) → length u ≤ maxBytes → Free q u (stored (sizes q) count (readLines barge u))
 unfolding readLines recordedBy stored recordTests firstOf unless refusedIf
-stored-free q u count = go (readFrom (barge .levels) initial (linesOf u)) refl
+stored-free q u count small = go (readFrom (barge .levels) initial (linesOf u)) refl
   where
     tests : (r : Records) → readLines barge u ≡ recorded r → (b0 : Bool) → ltb (length (q .page .lines)) (lineNeed (r .head .m)) ≡ b0
         → (b1 : Bool) → ltb (length (q .page .tokens)) (tokenNeed (r .head .k)) ≡ b1
@@ -87,7 +88,8 @@ stored-free q u count = go (readFrom (barge .levels) initial (linesOf u)) refl
     tests r e false e0 true e1 = fewTokens _
     tests r e false e0 false e1 =
         let fs = fresh-sizes u r e in
-        acceptance r count (fs .0) (fs .1) (fs .2) (ltb-false _ _ e0) (ltb-false _ _ e1)
+        let sm = fresh-small u r small e in
+        acceptance r count (fs .0) (omega (arith, sm .m-le, sm .n-le)) (omega (arith, sm .k-le, sm .n-le)) (fs .1) (fs .2) (ltb-false _ _ e0) (ltb-false _ _ e1)
 
     go : (x : Reading) → readFrom (barge .levels) initial (linesOf u) ≡ x → Free q u (stored (sizes q) count (recordedBy barge x))
     go (halts es h) e = halt-free q u (byteSum es) (suc (length es)) h
@@ -97,15 +99,15 @@ stored-free q u count = go (readFrom (barge .levels) initial (linesOf u)) refl
 
 -- what comes to pass on a faithful page is allowed on every page that fits
 outcome-allowed : (q : Lent) (ed : Edit) → Allowed q (edited (pageText (q .page)) ed) (gate (sizes q) (pageText (q .page)) ed) (outcome (sizes q) (pageText (q .page)) ed)
-unfolding outcome through
-outcome-allowed q ed = go (gate (sizes q) (pageText (q .page)) ed)
+unfolding outcome through isTooLong
+outcome-allowed q ed = go (gate (sizes q) (pageText (q .page)) ed) (gate-passed (sizes q) (pageText (q .page)) ed)
   where
     u : List ℕ
     u = edited (pageText (q .page)) ed
 
-    go : (g : Option Outcome) → Allowed q u g (through g (stored (sizes q) (rereadCount (pageText (q .page)) ed) (readLines barge u)))
-    go (some o) = refl
-    go none = stored-free q u (rereadCount (pageText (q .page)) ed)
+    go : (g : Option Outcome) → Passed (sizes q) (pageText (q .page)) ed g → Allowed q u g (through g (stored (sizes q) (rereadCount (pageText (q .page)) ed) (readLines barge u)))
+    go (some o) passed = refl
+    go none (clear proper text spare few form) = stored-free q u (rereadCount (pageText (q .page)) ed) (ltb-false _ _ few)
 
 pub can-be-met : (q : Lent) (ed : Edit) → (reply : Reply) × (q′ : Lent) × EditPost q ed reply q′
 can-be-met q ed = go (fits (q .page)) refl
@@ -153,7 +155,7 @@ free-roomy q u o h k (deep l) = roomLate _ k
 free-roomy q u o h k (fewLines n) = roomLate _ k
 free-roomy q u o h k (fewTokens n) = roomLate _ k
 free-roomy q u o h k stale = roomLate _ k
-free-roomy q u o h k (acceptance r count n l t x y) = roomDone r count h k n l t x y
+free-roomy q u o h k (acceptance r count n m j l t x y) = roomDone r count h k n l t x y
 
 allowed-roomy : (q : Lent) (ed : Edit) (g : Option Outcome) (o : Outcome) → Passed (sizes q) (pageText (q .page)) ed g
     → Allowed q (edited (pageText (q .page)) ed) g o → Roomy q (edited (pageText (q .page)) ed) o

@@ -83,14 +83,15 @@ unfoldable pub pageGate : Lent → Edit → Option Outcome
 pageGate q ed =
     unless (refusedIf (not (fits (q .page))) unfit) (λ r. some (early r)) (gate (sizes q) (pageText (q .page)) ed)
 
--- past the gate on any page: 3, 4, 5 (lines), 5 (tokens) or 7; or the edited text with any records that fit and any count
+-- past the gate on any page: 3, 4, 5 (lines), 5 (tokens) or 7; or the edited text with a header of three u32, any records that fit and
+-- any count
 pub data Free (q : Lent) (u : List ℕ) : Outcome → Type 0 where
   failure : (f : FailureRecord) → Free q u (late (reading (lexical f)))
   deep : (line : ℕ) → Free q u (late (reading (atLine (barge .tooDeepNumber) line)))
   fewLines : (least : ℕ) → Free q u (late (short linesBuffer least))
   fewTokens : (least : ℕ) → Free q u (late (short tokensBuffer least))
   stale : Free q u (late unfit)
-  acceptance : (r : Records) (count : ℕ) → r .head .n ≡ length u
+  acceptance : (r : Records) (count : ℕ) → r .head .n ≡ length u → r .head .m ≤ 4_294_967_295 → r .head .k ≤ 4_294_967_295
       → length (r .lines) ≡ lineNeed (r .head .m) → length (r .tokens) ≡ tokenNeed (r .head .k)
       → lineNeed (r .head .m) ≤ length (q .page .lines) → tokenNeed (r .head .k) ≤ length (q .page .tokens)
       → Free q u (done r count)
