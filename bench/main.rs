@@ -4,7 +4,8 @@ extern crate alloc;
 
 mod clock;
 mod edits;
-#[path = "../compare/src/lexpage.rs"]
+#[path = "../bindings/rust/src/declarations.rs"]
+#[rustfmt::skip]
 mod lexpage;
 #[path = "../oracle/src/original.rs"]
 mod original;

@@ -1,6 +1,7 @@
 //! The proved library: each C function on slices, its calls counted, and its answers altered where a fault is asked for.
 
-#[path = "lexpage.rs"]
+#[path = "../../bindings/rust/src/declarations.rs"]
+#[rustfmt::skip]
 mod lexpage;
 
 use std::cell::Cell;

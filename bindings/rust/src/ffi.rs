@@ -1,74 +1,13 @@
-//! The functions of `include/lexpage.h`, and each as a safe function on slices. All unsafe code of the crate is here.
+//! Each function of `include/lexpage.h` as a safe function on slices. All unsafe code of the crate is here.
 //!
 //! What the header asks of a caller holds in each call for the same reasons. A slice's pointer is non-null and aligned,
 //! also where the slice is empty, and is valid for its length. A slice that is lent to be written comes as `&mut`, so
 //! none of the others overlaps it; those that come as `&` are only read. The reply is a local array of 16 words.
+use crate::declarations::*;
 use crate::record::Header;
 
 // The library is for x86-64: its lengths and offsets are words of 64 bits.
 const _: () = assert!(usize::BITS == 64);
-
-extern "C" {
-    fn lexpage_fresh(lines: *mut u32, lines_len: usize, reply: *mut u64) -> u64;
-    fn lexpage_read(
-        text: *const u8,
-        text_len: usize,
-        lines: *mut u32,
-        lines_len: usize,
-        tokens: *mut u32,
-        tokens_len: usize,
-        reply: *mut u64,
-    ) -> u64;
-    fn lexpage_edit(
-        n: u32,
-        m: u32,
-        k: u32,
-        text: *mut u8,
-        text_len: usize,
-        spare: *mut u8,
-        spare_len: usize,
-        lines: *mut u32,
-        lines_len: usize,
-        tokens: *mut u32,
-        tokens_len: usize,
-        a: usize,
-        b: usize,
-        w: *const u8,
-        w_len: usize,
-        reply: *mut u64,
-    ) -> u64;
-    fn lexpage_check(
-        n: u32,
-        m: u32,
-        k: u32,
-        text: *const u8,
-        text_len: usize,
-        lines: *const u32,
-        lines_len: usize,
-        tokens: *const u32,
-        tokens_len: usize,
-        reply: *mut u64,
-    ) -> u64;
-    fn lexpage_token_text(
-        n: u32,
-        m: u32,
-        k: u32,
-        text: *const u8,
-        text_len: usize,
-        lines: *const u32,
-        lines_len: usize,
-        tokens: *const u32,
-        tokens_len: usize,
-        i: usize,
-        names: *const u8,
-        names_len: usize,
-        reply: *mut u64,
-    ) -> u64;
-    fn lexpage_walk_step(tokens: *const u32, tokens_len: usize, next: usize, reply: *mut u64) -> u64;
-    fn lexpage_report(text: *const u8, text_len: usize, out: *mut u8, out_len: usize, reply: *mut u64) -> u64;
-    fn lexpage_panel_column(text: *const u8, text_len: usize, offset: usize, reply: *mut u64) -> u64;
-    fn lexpage_byte_value(text: *const u8, text_len: usize, reply: *mut u64) -> u64;
-}
 
 /// The words that a call wrote: 0 and the values of an acceptance, or the number and the values of a refusal.
 pub struct Reply {

@@ -41,6 +41,7 @@
 #[cfg(feature = "alloc")]
 extern crate alloc;
 
+mod declarations;
 mod ffi;
 mod kind;
 pub mod lent;

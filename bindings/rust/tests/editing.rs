@@ -1,6 +1,7 @@
 //! Edits of pages: document 01's cases, every refusal, buffers that grow, and random lists held against fresh readings.
-use lexpage::{Line, Page, Refusal, MAX_BYTES};
+use lexpage::{lent, Line, Page, Refusal, MAX_BYTES};
 use std::ops::Range;
+use std::time::{Duration, Instant};
 
 fn page(text: &str) -> Page {
     Page::read(text.as_bytes()).unwrap()
@@ -253,4 +254,34 @@ fn random_lists_of_edits() {
         accepted > 8000 && refused > 2000 && longest > 20,
         "{accepted} accepted, {refused} refused, {longest} lines"
     );
+}
+
+/// The median time of a task.
+fn median(mut task: impl FnMut()) -> Duration {
+    let mut times: Vec<Duration> = (0..15)
+        .map(|_| {
+            let begun = Instant::now();
+            task();
+            begun.elapsed()
+        })
+        .collect();
+    times.sort();
+    times[times.len() / 2]
+}
+
+/// No contract says how long a call takes: an edit that read the whole page again, and told the stop rule's count, would meet it.
+/// A byte in the middle of a long page costs about a twentieth of a reading.
+#[test]
+fn an_edit_reads_few_lines_again() {
+    let line = b"record 4 -> 7 = 38; # seconds\n";
+    let text = line.repeat(34_000);
+    let mut page = Page::read(&text).unwrap();
+    let (mut lines, mut tokens) = (page.line_words().to_vec(), page.token_words().to_vec());
+    let reading = median(|| assert_eq!(lent::read(&text, &mut lines, &mut tokens), Ok(page.header())));
+    let at = 17_000 * line.len() + 8;
+    let edits = median(|| {
+        assert_eq!(page.edit(at..at, b"1").unwrap().reread, 1);
+        assert_eq!(page.edit(at..at + 1, b"").unwrap().reread, 1);
+    });
+    assert!(edits < reading / 2, "two edits took {edits:?}, a reading {reading:?}");
 }

@@ -1,4 +1,4 @@
-//! The same functions with the same parameters in `src/ffi.rs`, in `include/lexpage.h` and in the Rattle crate `lexpage`.
+//! The same functions with the same parameters in `src/declarations.rs`, in `include/lexpage.h` and in the Rattle crate `lexpage`.
 use std::fs;
 
 type Functions = Vec<(String, Vec<String>)>;
@@ -60,7 +60,7 @@ fn from_rattle(parameter: &str) -> Vec<String> {
 
 #[test]
 fn declarations_agree() {
-    let rust = declared("bindings/rust/src/ffi.rs", "fn lexpage_", |parameter| {
+    let rust = declared("bindings/rust/src/declarations.rs", "fn lexpage_", |parameter| {
         vec![parameter.to_string()]
     });
     assert_eq!(rust.len(), 9);

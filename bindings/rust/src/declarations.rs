@@ -1,6 +1,5 @@
-//! The C functions of the proved library, as `lexpage.h` declares them.
+//! The functions of `include/lexpage.h`.
 
-#[link(name = "lexpage", kind = "static")]
 extern "C" {
     pub fn lexpage_fresh(lines: *mut u32, lines_len: usize, reply: *mut u64) -> u64;
     pub fn lexpage_read(
@@ -57,24 +56,8 @@ extern "C" {
         names_len: usize,
         reply: *mut u64,
     ) -> u64;
-    pub fn lexpage_walk_step(
-        tokens: *const u32,
-        tokens_len: usize,
-        next: usize,
-        reply: *mut u64,
-    ) -> u64;
-    pub fn lexpage_report(
-        text: *const u8,
-        text_len: usize,
-        out: *mut u8,
-        out_len: usize,
-        reply: *mut u64,
-    ) -> u64;
-    pub fn lexpage_panel_column(
-        text: *const u8,
-        text_len: usize,
-        offset: usize,
-        reply: *mut u64,
-    ) -> u64;
+    pub fn lexpage_walk_step(tokens: *const u32, tokens_len: usize, next: usize, reply: *mut u64) -> u64;
+    pub fn lexpage_report(text: *const u8, text_len: usize, out: *mut u8, out_len: usize, reply: *mut u64) -> u64;
+    pub fn lexpage_panel_column(text: *const u8, text_len: usize, offset: usize, reply: *mut u64) -> u64;
     pub fn lexpage_byte_value(text: *const u8, text_len: usize, reply: *mut u64) -> u64;
 }
