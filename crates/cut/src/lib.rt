@@ -430,7 +430,7 @@ fn number_cut(reach: &[u8; 256], line: &[u8], at: usize) -> Cut
 }
 
 // A word: letters, digits, `_`; its kind only where it is asked for.
-fn word_cut(reach: &[u8; 256], keywords: &[u8; 506], line: &[u8], at: usize, named: bool) -> Cut
+fn word_cut(reach: &[u8; 256], keywords: &[u8; 539], line: &[u8], at: usize, named: bool) -> Cut
     requires { ⌜ now reach ≡ reachTable ⌝ }
     requires { ⌜ now keywords ≡ keywordTable ⌝ }
     requires { ⌜ at ≤ length (now line) ⌝ }
@@ -445,7 +445,7 @@ fn word_cut(reach: &[u8; 256], keywords: &[u8; 506], line: &[u8], at: usize, nam
 }
 
 // What a letter begins: a byte literal or a word.
-fn letter_cut(reach: &[u8; 256], keywords: &[u8; 506], line: &[u8], at: usize, named: bool) -> Cut
+fn letter_cut(reach: &[u8; 256], keywords: &[u8; 539], line: &[u8], at: usize, named: bool) -> Cut
     requires { ⌜ now reach ≡ reachTable ⌝ }
     requires { ⌜ now keywords ≡ keywordTable ⌝ }
     requires { ⌜ at ≤ length (now line) ⌝ }
@@ -494,7 +494,7 @@ pub fn cut_by_class(
     reach: &[u8; 256],
     index: &[u8; 256],
     signs: &[u8; 451],
-    keywords: &[u8; 506],
+    keywords: &[u8; 539],
     line: &[u8],
     at: usize,
     named: bool,
@@ -524,7 +524,7 @@ pub fn next_token(
     reach: &[u8; 256],
     index: &[u8; 256],
     signs: &[u8; 451],
-    keywords: &[u8; 506],
+    keywords: &[u8; 539],
     line: &[u8],
     at: usize,
     named: bool,

@@ -1,4 +1,4 @@
--- A search through one group of spellings finds what the whole search finds: words by length, signs by first byte.
+-- A search through one group of spellings finds what the whole search finds: words by first letter, signs by first byte.
 -- Assumes nothing.
 use Prim.Native.Nat.{ℕ, suc, _<_}
 use mathlib.Core.Path.{_≡_, refl, sym, ap}
@@ -6,15 +6,14 @@ use mathlib.Core.Bool.{Bool, true, false, _&&_, false≢true}
 use mathlib.Core.List.{List, [], _∷_}
 use mathlib.Core.Option.{some}
 use native.Mathlib.Omega.{arith}
-use lib.Dec.{leb, eqb}
+use lib.Dec.{eqb}
 use lib.ListN.{length, getD}
-use borrow.Author.Tests.{leb-true, eqb-true, eqb-false}
-use Rattle.rules.specs.Lists.{if_then_else_, every, begins, same}
-use Rattle.rules.specs.Kinds.{Ident}
+use borrow.Author.Tests.{eqb-false}
+use Rattle.rules.specs.Lists.{if_then_else_, begins, same}
 use Rattle.rules.specs.Tables.{Spelling, wordKind}
 use Rattle.rules.specs.Cut.{signCut}
-use Rattle.rules.proofs.ListLaws.{and-true}
-use Rattle.spelling.specs.Rows.{findIn, spelledOf, kindOf, cutOf, keep, only, ofLength, startsWith, startingWith}
+use Rattle.rules.proofs.StateLaws.{same-true}
+use Rattle.spelling.specs.Rows.{findIn, spelledOf, cutOf, keep, only, letterOf, ofLetter, startsWith, startingWith}
 
 if-under : {A B : Type 0} (f : A → B) (b : Bool) (x y : A) → (if b then f x else f y) ≡ f (if b then x else y)
 if-under f true x y = refl
@@ -53,7 +52,7 @@ same-begins [] (y ∷ w) e = absurd (omega arith)
 same-begins (x ∷ p) [] e = refl
 same-begins (x ∷ p) (y ∷ w) e = ap (λ (b : Bool). eqb x y && b) (same-begins p w (omega arith))
 
-same-not : (p w : List ℕ) → (length p ≡ length w → ⊥) → same p w ≡ false
+pub same-not : (p w : List ℕ) → (length p ≡ length w → ⊥) → same p w ≡ false
 unfolding same
 same-not [] [] h = absurd (h refl)
 same-not [] (y ∷ w) h = refl
@@ -64,28 +63,25 @@ same-not (x ∷ p) (y ∷ w) h = go (eqb x y) (same-not p w (λ e. h (ap suc e))
     go true e = e
     go false e = refl
 
--- by the length
-pub word-of-length : (w : List ℕ) (ks : List Spelling) → wordKind ks w ≡ kindOf (spelledOf (findIn (ofLength (length w) ks) w))
-unfolding wordKind findIn keep only ofLength spelledOf kindOf
-word-of-length w [] = refl
-word-of-length w (k ∷ ks) = go (eqb (length (k .bytes)) (length w)) refl (word-of-length w ks)
+-- spellings that are not the word may be left out
+module _ (f : Spelling → Bool) (w : List ℕ) (out : (k : Spelling) → f k ≡ false → same (k .bytes) w ≡ false) where
+  word-only : (ks : List Spelling) → wordKind (only f ks) w ≡ wordKind ks w
+  unfolding wordKind keep only
+  word-only [] = refl
+  word-only (k ∷ ks) = go (f k) refl (word-only ks)
+    where
+      go : (b : Bool) → f k ≡ b → wordKind (only f ks) w ≡ wordKind ks w → wordKind (keep b k (only f ks)) w ≡ wordKind (k ∷ ks) w
+      go true e r = rw r
+      go false e r = rw (out k e) r
+
+-- by the first letter
+pub word-of-letter : (w : List ℕ) (ks : List Spelling) → wordKind (ofLetter (letterOf w) ks) w ≡ wordKind ks w
+unfolding ofLetter
+word-of-letter w = word-only _ w (λ k e. go (k .bytes) (same (k .bytes) w) refl (eqb-false _ _ e))
   where
-    rest : List Spelling
-    rest = ofLength (length w) ks
-
-    go : (b : Bool) → eqb (length (k .bytes)) (length w) ≡ b → wordKind ks w ≡ kindOf (spelledOf (findIn rest w))
-        → wordKind (k ∷ ks) w ≡ kindOf (spelledOf (findIn (keep b k rest) w))
-    go true e r = rw (same-begins (k .bytes) w (eqb-true _ _ e), r) (if-under (λ o. kindOf (spelledOf o)) (begins (k .bytes) w) (some k) (findIn rest w))
-    go false e r = rw (same-not (k .bytes) w (eqb-false _ _ e)) r
-
--- no spelling is longer than m, and the word is
-pub long-word : (m : ℕ) (w : List ℕ) → m < length w → (ks : List Spelling) → every (λ (k : Spelling). leb (length (k .bytes)) m) ks ≡ true → wordKind ks w ≡ Ident
-unfolding wordKind every
-long-word m w h [] e = refl
-long-word m w h (k ∷ ks) e =
-    let p = and-true (leb (length (k .bytes)) m) (every (λ (k : Spelling). leb (length (k .bytes)) m) ks) e in
-    let l = leb-true (length (k .bytes)) m (p .0) in
-    rw (same-not (k .bytes) w (λ q. omega arith)) (long-word m w h ks (p .1))
+    go : (p : List ℕ) (b : Bool) → same p w ≡ b → (letterOf p ≡ letterOf w → ⊥) → b ≡ false
+    go p false e h = refl
+    go p true e h = absurd (h (ap letterOf (same-true p w e)))
 
 -- The cut of a sign.
 

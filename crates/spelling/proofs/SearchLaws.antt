@@ -1,7 +1,7 @@
 -- A row of a table against a text, byte by byte; a row passed or taken by the search.
 -- Assumes nothing.
 use Prim.Native.Nat.{ℕ, suc, _+_, _-_, _*_, _≤_, _<_}
-use mathlib.Core.Path.{_≡_, refl, _∙_}
+use mathlib.Core.Path.{_≡_, refl, sym, _∙_}
 use mathlib.Core.Bool.{Bool, true, false}
 use mathlib.Core.List.{List, _∷_}
 use mathlib.Core.Option.{Option, some}
@@ -11,10 +11,12 @@ use native.Mathlib.Nat.{add-zero}
 use lib.ListN.{length, getD, take, drop, length-drop}
 use lib.Seq.{drop-cons, length-take-le}
 use borrow.Author.Tests.{eq-eqb, ne-eqb}
-use Rattle.rules.specs.Lists.{if_then_else_, begins}
-use Rattle.rules.specs.Tables.{Spelling}
+use Rattle.rules.specs.Lists.{if_then_else_, begins, same}
+use Rattle.rules.specs.Kinds.{Ident}
+use Rattle.rules.specs.Tables.{Spelling, wordKind}
 use Rattle.rules.proofs.ListLaws.{begins-le}
 use Rattle.spelling.specs.Rows.{rowAt, rowsFrom, findIn, spelledOf}
+use Rattle.spelling.proofs.GroupLaws.{same-begins, same-not}
 use Rattle.spelling.specs.declared.Spelled.the-variants.{Kind, Unspelled}
 
 -- the bytes of a row at `base`, `len` of them, agree with the text from byte i on
@@ -103,5 +105,54 @@ module _ {t : List ℕ} {to k : ℕ} (r : Row t to k) (s : List ℕ) {found : Op
 pub rows-end : (t s : List ℕ) (to k : ℕ) {found : Option Spelling} → found ≡ findIn (rowsFrom t k (to - k)) s → to ≤ k → spelledOf found ≡ Unspelled
 unfolding rowsFrom findIn spelledOf
 rows-end t s to k inv h =
+    let n : to - k ≡ 0 = omega arith in
+    rw (inv, n)
+
+-- The search for a word, from row k on; `kind` is what the whole search gives.
+module _ {t : List ℕ} {to k : ℕ} (r : Row t to k) (w : List ℕ) {kind : ℕ} (inv : kind ≡ wordKind (rowsFrom t k (to - k)) w) where
+  at-spelling : kind ≡ (if same (rowAt t k .bytes) w then getD t (11 * k + 1) 0 else wordKind (rowsFrom t (k + 1) (to - (k + 1))) w)
+  unfolding rowsFrom wordKind rowAt
+  at-spelling =
+      let h = r .before in
+      let n : to - k ≡ suc (to - (k + 1)) = omega arith in
+      inv ∙ rw (n, add-one k)
+
+  row-length : length (rowAt t k .bytes) ≡ lengthAt t k
+  unfolding rowAt
+  row-length = let f = r .fits in length-take-le _ (drop (11 * k + 2) t) (simp length-drop (omega arith))
+
+  -- a row of another length
+  pub other-length : (lengthAt t k ≡ length w → ⊥) → kind ≡ wordKind (rowsFrom t (k + 1) (to - (k + 1))) w
+  other-length h = at-spelling ∙ rw (same-not (rowAt t k .bytes) w (λ e. h (sym row-length ∙ e)))
+
+  module _ (l : lengthAt t k ≡ length w) (i : ℕ) (so-far : agreeFrom t w (11 * k) (length w) 0 ≡ agreeFrom t w (11 * k) (length w) i) where
+    at-bytes : same (rowAt t k .bytes) w ≡ agreeFrom t w (11 * k) (length w) i
+    unfolding rowAt
+    at-bytes =
+        let z : length w - 0 ≡ lengthAt t k = omega arith in
+        same-begins (rowAt t k .bytes) w (row-length ∙ l) ∙ sym (rw (z, add-zero (11 * k + 2))) ∙ so-far
+
+    -- byte i differs
+    pub other-byte : i < length w → (getD t (11 * k + 2 + i) 0 ≡ getD w i 0 → ⊥) → kind ≡ wordKind (rowsFrom t (k + 1) (to - (k + 1))) w
+    other-byte h e =
+        let f = r .fits in
+        at-spelling ∙ rw (at-bytes ∙ agree-not t w (11 * k) (length w) (omega arith) i h (omega arith) e)
+
+    -- byte i agrees
+    pub same-byte : i < length w → getD t (11 * k + 2 + i) 0 ≡ getD w i 0 → agreeFrom t w (11 * k) (length w) 0 ≡ agreeFrom t w (11 * k) (length w) (i + 1)
+    same-byte h e =
+        let f = r .fits in
+        so-far ∙ agree-more t w (11 * k) (length w) (omega arith) i h (omega arith) e
+
+    -- every byte agreed
+    pub spelled : i ≡ length w → kind ≡ getD t (11 * k + 1) 0
+    spelled h =
+        let f = r .fits in
+        at-spelling ∙ rw (at-bytes ∙ agree-end t w (11 * k) (length w) (omega arith) i (omega arith))
+
+-- no row is left
+pub no-spelling : (t w : List ℕ) (to k : ℕ) {kind : ℕ} → kind ≡ wordKind (rowsFrom t k (to - k)) w → to ≤ k → kind ≡ Ident
+unfolding rowsFrom wordKind
+no-spelling t w to k inv h =
     let n : to - k ≡ 0 = omega arith in
     rw (inv, n)

@@ -1,4 +1,4 @@
--- The groups of the two tables, by tests that are computed over all rows, lengths and first bytes.
+-- The groups of the two tables, by tests that are computed over all rows, letters and first bytes.
 -- Assumes nothing.
 use Prim.Native.Nat.{ℕ, _+_, _-_, _*_, _/_, _%_, _≤_, _<_}
 use mathlib.Core.Path.{_≡_, refl, sym, ap, _∙_}
@@ -15,8 +15,8 @@ use Rattle.rules.specs.Kinds.{Ident}
 use Rattle.rules.specs.Tables.{Spelling, keywords, signs, wordKind, tableRules}
 use Rattle.spelling.specs.declared.Spelled.{Spelled}
 use Rattle.spelling.specs.declared.Spelled.the-variants.{Kind, Unspelled}
-use Rattle.spelling.specs.Rows.{rowsFrom, findIn, spelledOf, ofLength, startingWith, keywordTable, keywordStarts, signTable, signRows, signIndexTable, rowRules}
-use Rattle.spelling.proofs.GroupLaws.{find-starting, long-word}
+use Rattle.spelling.specs.Rows.{rowsFrom, findIn, spelledOf, ofLetter, startingWith, keywordStart, keywordTable, signTable, signRows, signIndexTable, rowRules}
+use Rattle.spelling.proofs.GroupLaws.{find-starting}
 
 -- rows of a table that can be searched, and the spellings that they hold
 pub record Group (t : List ℕ) (from to : ℕ) (ks : List Spelling) : Type 0 where
@@ -41,25 +41,51 @@ found-in g s f = f ∙ rw (g .holds)
 by-table : {A : Type 0} (f g : ℕ → A) (n : ℕ) (d : A) → table f 0 n ≡ table g 0 n → (k : ℕ) → k < n → f k ≡ g k
 by-table f g n d e k h = sym (entry f n k d h) ∙ ap (λ (l : List _). getD l k d) e ∙ entry g n k d h
 
+-- a table of so many bytes
+small-in : (t : List ℕ) (n : ℕ) → T (below (λ i. leb (getD t i 0) 255) n) → (i : ℕ) → i < n → getD t i 0 < 256
+small-in t n bytes i h = omega (arith, leb→le (getD t i 0) 255 (at (λ m. leb (getD t m 0) 255) n bytes i h))
+
 -- Keywords.
 
-pub start-small : (n : ℕ) → n ≤ 10 → getD keywordStarts n 0 ≤ 46
+-- where the rows of a letter begin, in the table
+start-at : {t : List ℕ} → t ≡ keywordTable → (x : ℕ) → x ≤ 32 → getD t (506 + x) 0 ≡ keywordStart x
 unfolding tableRules rowRules
-start-small n h = leb→le _ _ (at (λ m. leb (getD keywordStarts m 0) 46) 11 tt n (omega arith))
+start-at e x h = rw e (by-table (λ m. getD keywordTable (506 + m) 0) keywordStart 33 0 refl x (omega arith))
 
-keyword-rows : (n : ℕ) → n ≤ 9 → rowsFrom keywordTable (getD keywordStarts n 0) (getD keywordStarts (n + 1) 0 - getD keywordStarts n 0) ≡ ofLength n keywords
+start-small : (x : ℕ) → x ≤ 32 → keywordStart x ≤ 46
 unfolding tableRules rowRules
-keyword-rows n h = by-table (λ m. rowsFrom keywordTable (getD keywordStarts m 0) (getD keywordStarts (m + 1) 0 - getD keywordStarts m 0)) (λ m. ofLength m keywords) 10 [] refl n (omega arith)
+start-small x h = leb→le _ _ (at (λ m. leb (keywordStart m) 46) 33 tt x (omega arith))
 
--- the rows of a length
-pub keyword-group : {t : List ℕ} → t ≡ keywordTable → (n : ℕ) → n ≤ 9 → Group t (getD keywordStarts n 0) (getD keywordStarts (n + 1) 0) (ofLength n keywords)
+letter-rows : (x : ℕ) → x < 32 → rowsFrom keywordTable (keywordStart x) (keywordStart (x + 1) - keywordStart x) ≡ ofLetter x keywords
 unfolding tableRules rowRules
-keyword-group e n h = rw e (group 46 tt tt (start-small (n + 1) (omega arith)) (keyword-rows n h))
+letter-rows x h = by-table (λ m. rowsFrom keywordTable (keywordStart m) (keywordStart (m + 1) - keywordStart m)) (λ m. ofLetter m keywords) 32 [] refl x h
 
--- no keyword is longer than nine bytes
-pub long-keyword : (w : List ℕ) → 9 < length w → wordKind keywords w ≡ Ident
+rows-of : (x : ℕ) → x < 32 → Group keywordTable (keywordStart x) (keywordStart (x + 1)) (ofLetter x keywords)
+unfolding tableRules rowRules
+rows-of x h = group 46 tt tt (start-small (x + 1) (omega arith)) (letter-rows x h)
+
+-- the rows of a letter
+pub letter-group : {t : List ℕ} → t ≡ keywordTable → (x : ℕ) → x < 32 → Group t (getD t (506 + x) 0) (getD t (507 + x) 0) (ofLetter x keywords)
+letter-group e x h =
+    let n : 507 + x ≡ 506 + (x + 1) = omega arith in
+    rw (n, start-at e x (omega arith), start-at e (x + 1) (omega arith), e) (rows-of x h)
+
+-- its last row is one of the 46
+pub letter-end : {t : List ℕ} → t ≡ keywordTable → (x : ℕ) → x < 32 → getD t (507 + x) 0 ≤ 46
+letter-end e x h =
+    let n : 507 + x ≡ 506 + (x + 1) = omega arith in
+    rw (n, start-at e (x + 1) (omega arith)) (start-small (x + 1) (omega arith))
+
+-- a number of the table
+pub keyword-small : {t : List ℕ} → t ≡ keywordTable → (i : ℕ) → i < 539 → getD t i 0 < 256
+unfolding tableRules rowRules
+keyword-small e i h = rw e (small-in keywordTable 539 tt i h)
+
+-- no keyword is empty
+pub no-word : (w : List ℕ) → length w ≡ 0 → wordKind keywords w ≡ Ident
 unfolding tableRules
-long-keyword w h = long-word 9 w h keywords refl
+no-word [] h = refl
+no-word (b ∷ w) h = absurd (omega arith)
 
 -- Signs.
 
@@ -103,9 +129,9 @@ lone-inside e b h q =
     rw i (omega (arith, rows-inside b h, ap (λ (n : ℕ). n % 5) (sym i) ∙ q))
 
 -- a number of the table
-pub word-small : {t : List ℕ} → t ≡ signTable → (i : ℕ) → i < 451 → getD t i 0 < 256
+pub sign-small : {t : List ℕ} → t ≡ signTable → (i : ℕ) → i < 451 → getD t i 0 < 256
 unfolding tableRules rowRules
-word-small e i h = rw e (omega (arith, leb→le (getD signTable i 0) 255 (at (λ m. leb (getD signTable m 0) 255) 451 tt i h)))
+sign-small e i h = rw e (small-in signTable 451 tt i h)
 
 pub lone-sign : {x t : List ℕ} → x ≡ signIndexTable → t ≡ signTable → (s : List ℕ) → 0 < length s → getD s 0 0 < 256 → getD x (getD s 0 0) 0 % 5 ≡ 1
     → Kind (getD t (11 * (getD x (getD s 0 0) 0 / 5) + 1) 0) 1 ≡ spelledOf (findIn signs s)

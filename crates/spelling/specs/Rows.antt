@@ -1,6 +1,6 @@
 -- Spellings as rows of numbers: length, kind and nine bytes, zeros behind the spelling.
 -- Assumes nothing.
-use Prim.Native.Nat.{ℕ, _+_, _*_}
+use Prim.Native.Nat.{ℕ, _+_, _*_, _%_}
 use mathlib.Core.Bool.{Bool, true, false}
 use mathlib.Core.List.{List, [], _∷_, _++_, map}
 use mathlib.Core.Option.{Option, none, some}
@@ -8,7 +8,6 @@ use lib.Dec.{ltb, eqb}
 use lib.ListN.{length, getD, take, drop, replicate}
 use Rattle.laws.specs.Blocks.{blocks, table}
 use Rattle.rules.specs.Lists.{if_then_else_, begins, concat}
-use Rattle.rules.specs.Kinds.{Ident}
 use Rattle.rules.specs.Tables.{Spelling, keywords, signs}
 use Rattle.rules.specs.Failure.{failure, expectedAnd}
 use Rattle.rules.specs.Cut.{Cut, token, fails}
@@ -39,11 +38,6 @@ unfoldable pub spelledOf : Option Spelling → Spelled
 spelledOf none = Unspelled
 spelledOf (some k) = Kind (k .kind) (length (k .bytes))
 
--- its kind; with none, an identifier's
-unfoldable pub kindOf : Spelled → ℕ
-kindOf (Kind k n) = k
-kindOf Unspelled = Ident
-
 -- a token of it; with none, a failure for a lone `&`
 unfoldable pub cutOf : Spelled → Cut
 cutOf (Kind k n) = token k n
@@ -60,9 +54,6 @@ unfoldable pub only : (Spelling → Bool) → List Spelling → List Spelling
 only f [] = []
 only f (k ∷ ks) = keep (f k) k (only f ks)
 
-unfoldable pub ofLength : ℕ → List Spelling → List Spelling
-ofLength n ks = only (λ k. eqb (length (k .bytes)) n) ks
-
 unfoldable pub startsWith : ℕ → List ℕ → Bool
 startsWith b [] = true
 startsWith b (x ∷ p) = eqb x b
@@ -70,17 +61,22 @@ startsWith b (x ∷ p) = eqb x b
 unfoldable pub startingWith : ℕ → List Spelling → List Spelling
 startingWith b ks = only (λ k. startsWith b (k .bytes)) ks
 
--- Keywords, grouped by length.
+-- Keywords, grouped by first letter.
 
-unfoldable pub keywordTable : List ℕ
-keywordTable = concat (map rowWords (blocks (λ n. ofLength n keywords) 1 9))
+-- the last five bits of a word's first byte: large and small letters have the same
+abbrev pub letterOf : List ℕ → ℕ
+letterOf w = getD w 0 0 % 32
 
--- the row at which the spellings of this length begin
+unfoldable pub ofLetter : ℕ → List Spelling → List Spelling
+ofLetter x ks = only (λ k. eqb (letterOf (k .bytes)) x) ks
+
+-- the row at which the spellings of this letter begin
 unfoldable pub keywordStart : ℕ → ℕ
-keywordStart n = length (only (λ k. ltb (length (k .bytes)) n) keywords)
+keywordStart x = length (only (λ k. ltb (letterOf (k .bytes)) x) keywords)
 
-unfoldable pub keywordStarts : List ℕ
-keywordStarts = table keywordStart 0 11
+-- the rows, then where those of each letter begin, and where the last ones end
+unfoldable pub keywordTable : List ℕ
+keywordTable = concat (map rowWords (blocks (λ x. ofLetter x keywords) 0 32)) ++ table keywordStart 0 33
 
 -- Signs, grouped by first byte.
 
@@ -96,6 +92,6 @@ signIndexTable = table signRows 0 256
 
 -- opens the definitions above where a proof says `unfolding rowRules`
 unfoldable pub rowRules : Unit {0}
-unfolding rowWords rowAt rowsFrom findIn spelledOf kindOf cutOf keep only ofLength startsWith startingWith keywordTable keywordStart keywordStarts signTable signRows
+unfolding rowWords rowAt rowsFrom findIn spelledOf cutOf keep only startsWith startingWith ofLetter keywordStart keywordTable signTable signRows
     signIndexTable
 rowRules = tt

@@ -165,80 +165,98 @@ fn find_spelling(table: &[u8], from: usize, to: usize, s: &[u8]) -> Spelled
     }
 }
 
-// The keyword spellings, those of one length together: length, kind and nine bytes a row.
-const KEYWORDS: [u8; 506] = *b"\
-    \x01\x29N\0\0\0\0\0\0\0\0\
-    \x01\x2aF\0\0\0\0\0\0\0\0\
-    \x01\x2bT\0\0\0\0\0\0\0\0\
-    \x01\x2cS\0\0\0\0\0\0\0\0\
+// The keyword spellings, those of one first letter together, whether it is large or small: length, kind and nine bytes a row. Behind the
+// 46 rows: the row at which the spellings of each letter begin, by the letter's last five bits, and where the last ones end.
+const KEYWORDS: [u8; 539] = *b"\
+    \x05\x13break\0\0\0\0\
+    \x04\x24bool\0\0\0\0\0\
+    \x05\x07const\0\0\0\0\
+    \x08\x14continue\0\
+    \x07\x02ensures\0\0\
+    \x04\x06enum\0\0\0\0\0\
+    \x04\x0felse\0\0\0\0\0\
+    \x06\x1cEntity\0\0\0\
     \x02\x00fn\0\0\0\0\0\0\0\
+    \x03\x0bfor\0\0\0\0\0\0\
+    \x05\x1afalse\0\0\0\0\
+    \x02\x27fx\0\0\0\0\0\0\0\
+    \x03\x28f64\0\0\0\0\0\0\
+    \x01\x2aF\0\0\0\0\0\0\0\0\
+    \x05\x0dguard\0\0\0\0\
+    \x09\x03invariant\
+    \x04\x09impl\0\0\0\0\0\
     \x02\x0cin\0\0\0\0\0\0\0\
     \x02\x0eif\0\0\0\0\0\0\0\
     \x02\x10is\0\0\0\0\0\0\0\
-    \x02\x27fx\0\0\0\0\0\0\0\
-    \x03\x0alet\0\0\0\0\0\0\
-    \x03\x0bfor\0\0\0\0\0\0\
-    \x03\x1dLaw\0\0\0\0\0\0\
-    \x03\x22ref\0\0\0\0\0\0\
-    \x03\x25i32\0\0\0\0\0\0\
-    \x03\x26u32\0\0\0\0\0\0\
-    \x03\x28f64\0\0\0\0\0\0\
-    \x04\x06enum\0\0\0\0\0\
-    \x04\x09impl\0\0\0\0\0\
-    \x04\x0felse\0\0\0\0\0\
-    \x04\x1ewhen\0\0\0\0\0\
-    \x04\x12loop\0\0\0\0\0\
-    \x04\x16with\0\0\0\0\0\
-    \x04\x19true\0\0\0\0\0\
-    \x04\x1eWhen\0\0\0\0\0\
-    \x04\x23quad\0\0\0\0\0\
-    \x04\x24bool\0\0\0\0\0\
-    \x05\x07const\0\0\0\0\
-    \x05\x08trait\0\0\0\0\
-    \x05\x0dguard\0\0\0\0\
-    \x05\x11while\0\0\0\0\
-    \x05\x13break\0\0\0\0\
-    \x05\x15where\0\0\0\0\
-    \x05\x18match\0\0\0\0\
-    \x05\x1afalse\0\0\0\0\
-    \x05\x1fPulse\0\0\0\0\
-    \x06\x04record\0\0\0\
-    \x06\x05schema\0\0\0\
-    \x06\x17return\0\0\0\
-    \x06\x1bSystem\0\0\0\
-    \x06\x1cEntity\0\0\0\
     \x06\x21Import\0\0\0\
-    \x07\x02ensures\0\0\
+    \x03\x25i32\0\0\0\0\0\0\
+    \x03\x0alet\0\0\0\0\0\0\
+    \x04\x12loop\0\0\0\0\0\
+    \x03\x1dLaw\0\0\0\0\0\0\
+    \x05\x18match\0\0\0\0\
+    \x01\x29N\0\0\0\0\0\0\0\0\
+    \x05\x1fPulse\0\0\0\0\
     \x07\x20Profile\0\0\
+    \x04\x23quad\0\0\0\0\0\
     \x08\x01requires\0\
-    \x08\x14continue\0\
-    \x09\x03invariant";
-
-// The row at which the keywords of each length, from 0 on, begin.
-const KEYWORD_START: [u8; 11] = *b"\x00\x00\x04\x09\x10\x1a\x23\x29\x2b\x2d\x2e";
+    \x06\x04record\0\0\0\
+    \x06\x17return\0\0\0\
+    \x03\x22ref\0\0\0\0\0\0\
+    \x06\x05schema\0\0\0\
+    \x06\x1bSystem\0\0\0\
+    \x01\x2cS\0\0\0\0\0\0\0\0\
+    \x05\x08trait\0\0\0\0\
+    \x04\x19true\0\0\0\0\0\
+    \x01\x2bT\0\0\0\0\0\0\0\0\
+    \x03\x26u32\0\0\0\0\0\0\
+    \x04\x1ewhen\0\0\0\0\0\
+    \x05\x11while\0\0\0\0\
+    \x05\x15where\0\0\0\0\
+    \x04\x16with\0\0\0\0\0\
+    \x04\x1eWhen\0\0\0\0\0\
+    \x00\x00\x00\x02\x04\x04\x08\x0e\x0f\x0f\x16\x16\x16\x19\x1a\x1b\
+    \x1b\x1d\x1e\x22\x25\x28\x29\x29\x2e\x2e\x2e\x2e\x2e\x2e\x2e\x2e\
+    \x2e";
 
 // The table of keywords: a caller makes it once and lends it.
-pub fn keyword_table() -> [u8; 506]
+pub fn keyword_table() -> [u8; 539]
     ensures { λ r. ⌜ r ≡ keywordTable ⌝ }
 {
     KEYWORDS
 }
 
-// The kind of a word: that of the keyword which it spells, otherwise 45, an identifier.
-pub fn word_kind(table: &[u8; 506], word: &[u8]) -> u32
+// The kind of a word: that of the keyword which it spells, otherwise 45, an identifier. Rows of another first letter are not looked at; a
+// row of another length, or with a byte that differs, is passed; the first that agrees in length and every byte ends the search.
+pub fn word_kind(table: &[u8; 539], word: &[u8]) -> u32
     requires { ⌜ now table ≡ keywordTable ⌝ }
     ensures { λ r. ⌜ r ≡ wordKind keywords (now (word .entry)) ⌝ }
 {
     let n = word.len();
-    if 9 < n {
+    if n == 0 {
         return 45;
     }
-    let start = KEYWORD_START;
-    let from = start[n] as usize;
-    let to = start[n + 1] as usize;
-    match find_spelling(table, from, to, word) {
-        Spelled::Kind(kind, _) => kind,
-        Spelled::Unspelled => 45,
+    let letter = (word[0] % 32) as usize;
+    let to = table[507 + letter] as usize;
+    let mut row = table[506 + letter] as usize;
+    'rows: loop {
+        if to <= row {
+            break 'rows 45;
+        }
+        let base = 11 * row;
+        row += 1;
+        if table[base] as usize != n {
+            continue 'rows;
+        }
+        let mut j: usize = 0;
+        loop {
+            if j == n {
+                break 'rows table[base + 1] as u32;
+            }
+            if table[base + 2 + j] != word[j] {
+                continue 'rows;
+            }
+            j += 1;
+        }
     }
 }
 

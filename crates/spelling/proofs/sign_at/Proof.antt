@@ -8,7 +8,7 @@ use lib.ListN.{getD}
 use Rattle.rules.specs.Tables.{signs}
 use Rattle.spelling.specs.Rows.{spelledOf, startingWith}
 use Rattle.spelling.proofs.GroupLaws.{find-starting}
-use Rattle.spelling.proofs.TableLaws.{Group, found-in, rows-small, sign-group, lone-inside, word-small, lone-sign, no-sign}
+use Rattle.spelling.proofs.TableLaws.{Group, found-in, rows-small, sign-group, lone-inside, sign-small, lone-sign, no-sign}
 use Rattle.spelling.proofs.sign_at.Statement.{statement}
 use Rattle.spelling.proofs.sign_at.Tie as tie
 
@@ -51,7 +51,7 @@ element-copy-out-t18 : tie.Need-element-copy-out-t18
 element-copy-out-t18 c = lone-at c
 
 cast-t19 : tie.Need-cast-t19
-cast-t19 c = omega (arith, word-small (c .before .before .before .before .before .before .pre .1) _ (lone-at (c .before)))
+cast-t19 c = omega (arith, sign-small (c .before .before .before .before .before .before .pre .1) _ (lone-at (c .before)))
 
 returns-2 : tie.Need-returns-2
 returns-2 c =
