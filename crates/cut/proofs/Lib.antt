@@ -3,3 +3,4 @@ pub mod Plain
 pub mod Words
 pub mod Literals
 pub mod Numbers
+pub mod Trimmed

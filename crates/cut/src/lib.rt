@@ -159,8 +159,7 @@ fn string_cut(line: &[u8], at: usize) -> Cut
     })
 }
 
-// Byte literals. A line counts as ended at its trailing CRs, so `line` is lent without them; each step stands at offset `k` of the literal
-// that begins at `at`.
+// Byte literals. Each step stands at offset `k` of the literal that begins at `at`.
 
 // A hex digit.
 fn is_hex_digit(b: u8) -> bool
@@ -330,13 +329,19 @@ fn content_cut(line: &[u8], at: usize) -> Cut
     closing_cut(line, at, 3)
 }
 
-// The byte literal that begins with `b'` at `at`.
+// The byte literal that begins with `b'` at `at`. One that reads holds no CR, so where the line's trailing CRs begin matters to a
+// failure alone; a failure ends the reading, so they are looked for once.
 fn scan_ascii_byte_literal(line: &[u8], at: usize) -> Cut
     requires { ⌜ at + 2 ≤ length (trimEnd isCR (now line)) ⌝ }
     ensures { λ r. ⌜ cutOf r ≡ byteCut (drop at (now (line .entry))) ⌝ }
 {
-    let end = trimmed_end(line);
-    content_cut(&line[0..end], at)
+    match content_cut(line, at) {
+        Cut::Token(kind, size) => Cut::Token(kind, size),
+        _ => {
+            let end = trimmed_end(line);
+            content_cut(&line[0..end], at)
+        }
+    }
 }
 
 // Numbers.
