@@ -159,8 +159,8 @@ free-roomy q u o h k (acceptance r count n m j l t x y) = roomDone r count h k n
 
 allowed-roomy : (q : Lent) (ed : Edit) (g : Option Outcome) (o : Outcome) → Passed (sizes q) (pageText (q .page)) ed g
     → Allowed q (edited (pageText (q .page)) ed) g o → Roomy q (edited (pageText (q .page)) ed) o
-allowed-roomy q ed g o (stopsEarly r) e = rw e (roomEarly r)
-allowed-roomy q ed g o (stopsLate r h k) e = rw e (roomLate r k)
+allowed-roomy q ed g o (stopsEarly r s) e = rw e (roomEarly r)
+allowed-roomy q ed g o (stopsLate r s h k) e = rw e (roomLate r k)
 allowed-roomy q ed g o (clear p h k x y) f = free-roomy q (edited (pageText (q .page)) ed) o h k f
 
 roomy-safe : (q : Lent) (u : List ℕ) (o : Outcome) → Fits (q .page) → Roomy q u o → Safe q (textAfter (pageText (q .page)) u o) (after q u o)

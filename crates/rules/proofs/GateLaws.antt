@@ -10,14 +10,14 @@ use lib.Dec.{ltb}
 use lib.ListN.{length}
 use borrow.Author.Tests.{ltb-false, lt-ltb, le-ltb}
 use Rattle.rules.specs.Lists.{if_then_else_}
-use Rattle.rules.specs.Replies.{maxBytes, barge, Unread, Refusal, reading, short, outside, textBuffer, spareBuffer, linesBuffer, tokensBuffer, refusedIf, firstOf, unless, isTooLong, tooLongBy, isMalformed, malformedBy}
+use Rattle.rules.specs.Replies.{maxBytes, barge, Unread, Refusal, reading, short, outside, numberedUnread, numbered, isRefused, textBuffer, spareBuffer, linesBuffer, tokensBuffer, refusedIf, firstOf, unless, isTooLong, tooLongBy, isMalformed, malformedBy}
 use Rattle.rules.specs.Records.{lineNeed, tokenNeed, Records, recordTests, FreshReading, recorded, unread, readLines, freshReading}
 use Rattle.rules.specs.Page.{Sizes}
 use Rattle.rules.specs.StopRule.{Edit, edited, rereadCount}
 use Rattle.rules.specs.Edit.{Outcome, early, late, done, isImproper, earlyTests, gate, stored, through, outcome}
 use Rattle.rules.specs.History.{Proper}
 use Rattle.rules.proofs.ListLaws.{if-by, or-left, or-right, or-none}
-use Rattle.rules.proofs.PageLaws.{fresh-lines, fresh-inverse, FreshCases, long, illFormed, lines, fresh-cases}
+use Rattle.rules.proofs.PageLaws.{unread-refused, fresh-lines, fresh-inverse, FreshCases, long, illFormed, lines, fresh-cases}
 
 -- One test.
 
@@ -44,13 +44,13 @@ improper-false t ed h = go (ltb (ed .b) (ed .a)) refl h
 -- The gate by cases.
 
 pub data Passed (z : Sizes) (t : List ℕ) (ed : Edit) : Option Outcome → Type 0 where
-  stopsEarly : (r : Refusal) → Passed z t ed (some (early r))
-  stopsLate : (r : Refusal) → length (edited t ed) ≤ z .text → length (edited t ed) ≤ z .spare → Passed z t ed (some (late r))
+  stopsEarly : (r : Refusal) → isRefused (numbered r) ≡ true → Passed z t ed (some (early r))
+  stopsLate : (r : Refusal) → isRefused (numbered r) ≡ true → length (edited t ed) ≤ z .text → length (edited t ed) ≤ z .spare → Passed z t ed (some (late r))
   clear : Proper t ed → length (edited t ed) ≤ z .text → length (edited t ed) ≤ z .spare
       → isTooLong barge (edited t ed) ≡ false → isMalformed (edited t ed) ≡ false → Passed z t ed none
 
 pub gate-passed : (z : Sizes) (t : List ℕ) (ed : Edit) → Passed z t ed (gate z t ed)
-unfolding gate earlyTests firstOf unless refusedIf
+unfolding gate earlyTests firstOf unless refusedIf tooLongBy malformedBy numberedUnread numbered isRefused
 gate-passed z t ed = tests (isImproper t ed) refl (isTooLong barge u) refl (ltb (z .text) (length u)) refl (ltb (z .spare) (length u)) refl (isMalformed u) refl
   where
     u : List ℕ
@@ -64,11 +64,11 @@ gate-passed z t ed = tests (isImproper t ed) refl (isTooLong barge u) refl (ltb 
         ((if b0 then some outside else none) ∷ (if b1 then some (reading (tooLongBy barge u)) else none) ∷ (if b2 then some (short textBuffer (length u)) else none)
         ∷ (if b3 then some (short spareBuffer (length u)) else none) ∷ []))
         (λ r. some (early r)) (unless (if b4 then some (reading (malformedBy u)) else none) (λ r. some (late r)) none))
-    tests true e0 b1 e1 b2 e2 b3 e3 b4 e4 = stopsEarly outside
-    tests false e0 true e1 b2 e2 b3 e3 b4 e4 = stopsEarly _
-    tests false e0 false e1 true e2 b3 e3 b4 e4 = stopsEarly _
-    tests false e0 false e1 false e2 true e3 b4 e4 = stopsEarly _
-    tests false e0 false e1 false e2 false e3 true e4 = stopsLate _ (ltb-false _ _ e2) (ltb-false _ _ e3)
+    tests true e0 b1 e1 b2 e2 b3 e3 b4 e4 = stopsEarly outside refl
+    tests false e0 true e1 b2 e2 b3 e3 b4 e4 = stopsEarly _ refl
+    tests false e0 false e1 true e2 b3 e3 b4 e4 = stopsEarly _ refl
+    tests false e0 false e1 false e2 true e3 b4 e4 = stopsEarly _ refl
+    tests false e0 false e1 false e2 false e3 true e4 = stopsLate _ refl (ltb-false _ _ e2) (ltb-false _ _ e3)
     tests false e0 false e1 false e2 false e3 false e4 = clear (improper-false t ed e0) (ltb-false _ _ e2) (ltb-false _ _ e3) e1 e4
 
 -- The gate, test by test.
@@ -125,24 +125,24 @@ module _ (lines tokens : ℕ) (r : Records) where
 -- The outcome by cases.
 
 pub data Sound (z : Sizes) (t : List ℕ) (ed : Edit) : Outcome → Type 0 where
-  isEarly : (r : Refusal) → Sound z t ed (early r)
-  isLate : (r : Refusal) → length (edited t ed) ≤ z .text → length (edited t ed) ≤ z .spare → Sound z t ed (late r)
+  isEarly : (r : Refusal) → isRefused (numbered r) ≡ true → Sound z t ed (early r)
+  isLate : (r : Refusal) → isRefused (numbered r) ≡ true → length (edited t ed) ≤ z .text → length (edited t ed) ≤ z .spare → Sound z t ed (late r)
   isDone : (r : Records) → Proper t ed → length (edited t ed) ≤ z .text → length (edited t ed) ≤ z .spare
       → freshReading (edited t ed) ≡ recorded r → lineNeed (r .head .m) ≤ z .lines → tokenNeed (r .head .k) ≤ z .tokens
       → Sound z t ed (done r (rereadCount t ed))
 
 stored-sound : (z : Sizes) (t : List ℕ) (ed : Edit) → Proper t ed → length (edited t ed) ≤ z .text → length (edited t ed) ≤ z .spare
     → (f : FreshReading) → freshReading (edited t ed) ≡ f → Sound z t ed (stored z (rereadCount t ed) f)
-unfolding stored recordTests firstOf unless refusedIf
-stored-sound z t ed p h k (unread u) e = isLate (reading u) h k
+unfolding stored recordTests firstOf unless refusedIf numbered isRefused
+stored-sound z t ed p h k (unread u) e = isLate (reading u) (unread-refused (edited t ed) u e) h k
 stored-sound z t ed p h k (recorded r) e = tests (ltb (z .lines) (lineNeed (r .head .m))) refl (ltb (z .tokens) (tokenNeed (r .head .k))) refl
   where
     tests : (b0 : Bool) → ltb (z .lines) (lineNeed (r .head .m)) ≡ b0 → (b1 : Bool) → ltb (z .tokens) (tokenNeed (r .head .k)) ≡ b1
         → Sound z t ed
         (unless (firstOf ((if b0 then some (short linesBuffer (lineNeed (r .head .m))) else none) ∷ (if b1 then some (short tokensBuffer (tokenNeed (r .head .k))) else none) ∷ []))
         late (done r (rereadCount t ed)))
-    tests true e0 b1 e1 = isLate _ h k
-    tests false e0 true e1 = isLate _ h k
+    tests true e0 b1 e1 = isLate _ refl h k
+    tests false e0 true e1 = isLate _ refl h k
     tests false e0 false e1 = isDone r p h k e (ltb-false _ _ e0) (ltb-false _ _ e1)
 
 pub outcome-sound : (z : Sizes) (t : List ℕ) (ed : Edit) → Sound z t ed (outcome z t ed)
@@ -150,8 +150,8 @@ unfolding outcome through
 outcome-sound z t ed = go (gate z t ed) (gate-passed z t ed)
   where
     go : (g : Option Outcome) → Passed z t ed g → Sound z t ed (through g (stored z (rereadCount t ed) (readLines barge (edited t ed))))
-    go g (stopsEarly r) = isEarly r
-    go g (stopsLate r h k) = isLate r h k
+    go g (stopsEarly r x) = isEarly r x
+    go g (stopsLate r x h k) = isLate r x h k
     go g (clear p h k x y) = stored-sound z t ed p h k (readLines barge (edited t ed)) (fresh-lines (edited t ed) x y)
 
 -- With a proper range, and text and spare long enough, the fresh reading of the edited text decides.

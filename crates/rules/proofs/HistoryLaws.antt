@@ -2,6 +2,7 @@
 -- Assumes nothing.
 use Prim.Native.Nat.{ℕ, zero, suc, _≤_}
 use mathlib.Core.Path.{_≡_, refl, sym, ap, _∙_}
+use mathlib.Core.Bool.{true}
 use mathlib.Core.List.{List, [], _∷_, _++_}
 use native.Mathlib.Omega.{arith}
 use lib.Dec.{ltb}
@@ -10,7 +11,7 @@ use lib.Seq.{take-at}
 use borrow.Author.Tests.{le-ltb}
 use Rattle.rules.specs.Lists.{if_then_else_, overwrite}
 use Rattle.rules.specs.Utf8.{utf8Rules}
-use Rattle.rules.specs.Replies.{barge, Unread, Refusal, reading, Reply, numbered, accepted, refusedIf, unless, isTooLong, isMalformed}
+use Rattle.rules.specs.Replies.{barge, Unread, Refusal, reading, Reply, numbered, accepted, isRefused, refusedIf, unless, isTooLong, isMalformed}
 use Rattle.rules.specs.Records.{lineSize, lineNeed, tokenNeed, header, headerWords, Records, recorded, unread, freshReading, readLines}
 use Rattle.rules.specs.Page.{Page, Lent, Sizes, sizes, pageText, pageRecords, Faithful, headerAfter, freshReply, freshLines, freshPage, FreshPost}
 use Rattle.rules.specs.StopRule.{Edit, edited, rereadCount}
@@ -18,7 +19,7 @@ use Rattle.rules.specs.Edit.{Outcome, early, late, done, outcome, replyO
 use Rattle.rules.specs.History.{Chain, none, call, textAfter, paperNext, paperText, paperReplies, Proper, Room, LongEnough, Settled, Holds, Agrees, Demand3}
 use Rattle.rules.proofs.BufferLaws.{length-overwrite, overwrite-take}
 use Rattle.rules.proofs.RecordLaws.{fresh-sizes, fresh-empty}
-use Rattle.rules.proofs.PageLaws.{Fits, faithful-fits, fresh-inverse, fresh-lines, page-length}
+use Rattle.rules.proofs.PageLaws.{Fits, faithful-fits, fresh-inverse, fresh-lines, unread-refused, page-length}
 use Rattle.rules.proofs.GateLaws.{Sound, isEarly, isLate, isDone, outcome-sound, outcome-accepts, Refuses, atFirst, atLast, outcome-refuses}
 
 -- Lent buffers that hold a text.
@@ -46,10 +47,10 @@ module _ {z : Sizes} {t : List ℕ} {q : Lent} (h : Holds z t q) where
 -- One edit on paper.
 
 settled-by : (z : Sizes) (t : List ℕ) (ed : Edit) → length t ≤ z .text → Room z t → (o : Outcome) → outcome z t ed ≡ o → Sound z t ed o
-    → (Proper t ed → LongEnough z t ed → ⊥) → (r : Refusal) × (replyOf o ≡ numbered r) × (textAfter t (edited t ed) o ≡ t)
+    → (Proper t ed → LongEnough z t ed → ⊥) → (r : Refusal) × (replyOf o ≡ numbered r) × (isRefused (replyOf o) ≡ true) × (textAfter t (edited t ed) o ≡ t)
 unfolding replyOf textAfter
-settled-by z t ed ht hr o e (isEarly r) no-way = (r, refl, refl)
-settled-by z t ed ht hr o e (isLate r h k) no-way = (r, refl, refl)
+settled-by z t ed ht hr o e (isEarly r s) no-way = (r, refl, s, refl)
+settled-by z t ed ht hr o e (isLate r s h k) no-way = (r, refl, s, refl)
 settled-by z t ed ht hr o e (isDone r p h k f hl hk) no-way =
     absurd (no-way p (record {
       text-before = ht;
@@ -66,22 +67,23 @@ settled z t ed ht hr =
       accepts = λ p l r e.
           let room = l .records r e in
           rw (outcome-accepts z t ed p (l .text) (l .spare) r e (room .0) (room .1)) (refl, refl);
-      refuses = λ p l u e. refuses (outcome z t ed) (outcome-refuses z t ed p (l .text) (l .spare) u e);
+      refuses = λ p l u e. refuses (outcome z t ed) (outcome-refuses z t ed p (l .text) (l .spare) u e) (unread-refused (edited t ed) u e);
       otherwise = settled-by z t ed ht hr (outcome z t ed) refl (outcome-sound z t ed);
     }
   where
     refuses : {p : Proper t ed} {h : length (edited t ed) ≤ z .text} {k : length (edited t ed) ≤ z .spare} {u : Unread} (o : Outcome)
-        → Refuses z t ed p h k u o → (replyOf o ≡ numbered (reading u)) × (textAfter t (edited t ed) o ≡ t)
-    refuses o atFirst = (refl, refl)
-    refuses o atLast = (refl, refl)
+        → Refuses z t ed p h k u o → isRefused (numbered (reading u)) ≡ true
+        → (replyOf o ≡ numbered (reading u)) × (isRefused (replyOf o) ≡ true) × (textAfter t (edited t ed) o ≡ t)
+    refuses o atFirst s = (refl, s, refl)
+    refuses o atLast s = (refl, s, refl)
 
 -- One edit of lent buffers.
 
 -- an outcome keeps buffers that hold a text
 keeps : (z : Sizes) (t : List ℕ) (ed : Edit) (q : Lent) (o : Outcome) → Holds z t q → Sound z t ed o → Holds z (textAfter t (edited t ed) o) (after q (edited t ed) o)
 unfolding textAfter after
-keeps z t ed q o h (isEarly r) = h
-keeps z t ed q o h (isLate r h1 h2) =
+keeps z t ed q o h (isEarly r s) = h
+keeps z t ed q o h (isLate r s h1 h2) =
     let u : List ℕ = edited t ed in
     let e2 : length (overwrite u (q .spare)) ≡ length (q .spare) = length-overwrite u (q .spare) (omega (arith, ap (λ (y : Sizes). y .spare) (h .sizes-are))) in
     record {

@@ -12,8 +12,10 @@ use lib.ListN.{length, take, length-take}
 use lib.Seq.{length-take-le}
 use borrow.Author.Tests.{leb-true, le-leb}
 use Rattle.rules.specs.Lists.{if_then_else_, same}
-use Rattle.rules.specs.Replies.{barge, Unread, isTooLong, tooLongBy, isMalformed, malformedBy}
-use Rattle.rules.specs.Records.{lineNeed, tokenNeed, Header, header, headerWords, Records, FreshReading, recorded, unread, readLines, freshReadingBy, freshReading}
+use Rattle.rules.specs.Line.{initial, Halt, failed, overLimit}
+use Rattle.rules.specs.Reading.{linesOf, Reading, reads, halts, readFrom, byteSum}
+use Rattle.rules.specs.Replies.{barge, Unread, reading, numberedUnread, numbered, isRefused, isTooLong, tooLongBy, isMalformed, malformedBy}
+use Rattle.rules.specs.Records.{lineNeed, tokenNeed, Header, header, headerWords, Records, haltRefusal, recordedBy, FreshReading, recorded, unread, readLines, freshReadingBy, freshReading}
 use Rattle.rules.specs.Page.{Page, fits, pageText, pageRecords, Faithful, sameRecords, isRecorded, isFaithful}
 use Rattle.rules.proofs.ListLaws.{and-true}
 use Rattle.rules.proofs.RecordLaws.{fresh-sizes}
@@ -49,6 +51,26 @@ fresh-inverse u r h = go (freshReading u) (fresh-cases u) h
     go f (long x) e = let n : _≡_ {A = ℕ} 0 1 = cc in absurd (omega arith)
     go f (illFormed x y) e = let n : _≡_ {A = ℕ} 0 1 = cc in absurd (omega arith)
     go f (lines x y q) e = (x, y, q ∙ e)
+
+-- a text that does not read is refused with a number that is not 0
+halt-refused : (p l : ℕ) (h : Halt) → isRefused (numbered (reading (haltRefusal barge p l h))) ≡ true
+unfolding haltRefusal numbered numberedUnread isRefused
+halt-refused p l (failed f) = refl
+halt-refused p l overLimit = refl
+
+lines-refused : (r : Reading) (x : Unread) → recordedBy barge r ≡ unread x → isRefused (numbered (reading x)) ≡ true
+unfolding recordedBy
+lines-refused (reads es s) x e = let n : _≡_ {A = ℕ} 0 1 = cc in absurd (omega arith)
+lines-refused (halts es h) x e = let s : haltRefusal barge (byteSum es) (suc (length es)) h ≡ x = cc in rw s at (halt-refused (byteSum es) (suc (length es)) h)
+
+pub unread-refused : (u : List ℕ) (x : Unread) → freshReading u ≡ unread x → isRefused (numbered (reading x)) ≡ true
+unfolding readLines tooLongBy malformedBy numbered numberedUnread isRefused
+unread-refused u x e = go (freshReading u) (fresh-cases u) e
+  where
+    go : (f : FreshReading) → FreshCases u f → f ≡ unread x → isRefused (numbered (reading x)) ≡ true
+    go f (long a) q = let s : tooLongBy barge u ≡ x = cc in rw (← s)
+    go f (illFormed a b) q = let s : malformedBy u ≡ x = cc in rw (← s)
+    go f (lines a b c) q = lines-refused (readFrom (barge .levels) initial (linesOf u)) x (c ∙ q)
 
 -- Fitting.
 

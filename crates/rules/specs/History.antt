@@ -2,9 +2,10 @@
 -- Assumes nothing.
 use Prim.Native.Nat.{ℕ, _≤_}
 use mathlib.Core.Path.{_≡_}
+use mathlib.Core.Bool.{true}
 use mathlib.Core.List.{List, [], _∷_, _++_}
 use lib.ListN.{length}
-use Rattle.rules.specs.Replies.{Unread, Refusal, reading, Reply, numbered, accepted}
+use Rattle.rules.specs.Replies.{Unread, Refusal, reading, Reply, numbered, accepted, isRefused}
 use Rattle.rules.specs.Records.{lineSize, lineNeed, tokenNeed, headerWords, Records, recorded, unread, freshReading}
 use Rattle.rules.specs.Page.{Page, Lent, Sizes, sizes, pageText, pageRecords, FreshPost}
 use Rattle.rules.specs.StopRule.{Edit, edited, rereadCount}
@@ -53,13 +54,13 @@ pub record LongEnough (z : Sizes) (t : List ℕ) (ed : Edit) : Type 0 where
   pub records : Room z (edited t ed)
 
 -- with a proper range and long enough buffers an edit is accepted where the edited text reads, with the stop rule's count, and
--- otherwise refused as its fresh reading is; any other edit is refused
+-- otherwise refused as its fresh reading is; any other edit is refused; the number of a refusal is not 0
 pub record Settled (z : Sizes) (t : List ℕ) (ed : Edit) (reply : Reply) (t′ : List ℕ) : Type 0 where
   pub accepts : Proper t ed → LongEnough z t ed → (r : Records) → freshReading (edited t ed) ≡ recorded r
       → (reply ≡ accepted (headerWords (r .head) ++ (rereadCount t ed ∷ []))) × (t′ ≡ edited t ed)
   pub refuses : Proper t ed → LongEnough z t ed → (u : Unread) → freshReading (edited t ed) ≡ unread u
-      → (reply ≡ numbered (reading u)) × (t′ ≡ t)
-  pub otherwise : (Proper t ed → LongEnough z t ed → ⊥) → (r : Refusal) × (reply ≡ numbered r) × (t′ ≡ t)
+      → (reply ≡ numbered (reading u)) × (isRefused reply ≡ true) × (t′ ≡ t)
+  pub otherwise : (Proper t ed → LongEnough z t ed → ⊥) → (r : Refusal) × (reply ≡ numbered r) × (isRefused reply ≡ true) × (t′ ≡ t)
 
 -- Demand 3.
 

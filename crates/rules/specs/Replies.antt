@@ -1,6 +1,6 @@
 -- Replies: 0 and the values of an acceptance, or the document's number and values of a refusal.
 -- Assumes nothing.
-use Prim.Native.Nat.{ℕ, min}
+use Prim.Native.Nat.{ℕ, zero, suc, min}
 use mathlib.Core.Bool.{Bool, true, false}
 use mathlib.Core.List.{List, [], _∷_}
 use mathlib.Core.Option.{Option, none, some}
@@ -67,6 +67,12 @@ numbered unfit = 7 ∷ []
 abbrev pub accepted : List ℕ → Reply
 accepted vs = 0 ∷ vs
 
+-- a reply refuses if its number is not 0
+unfoldable pub isRefused : Reply → Bool
+isRefused [] = false
+isRefused (zero ∷ vs) = false
+isRefused (suc number ∷ vs) = true
+
 -- the buffers' numbers in refusal 5
 abbrev pub textBuffer : ℕ
 textBuffer = 1
@@ -132,5 +138,5 @@ roomTest b has least = refusedIf (ltb has least) (short b least)
 
 -- opens the definitions above where a proof says `unfolding replyRules`
 unfoldable pub replyRules : Unit {0}
-unfolding failureWords numberedUnread numbered refusedIf firstOf unless isTooLong tooLongBy isMalformed malformedBy
+unfolding failureWords numberedUnread numbered isRefused refusedIf firstOf unless isTooLong tooLongBy isMalformed malformedBy
 replyRules = tt
