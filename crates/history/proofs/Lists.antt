@@ -16,7 +16,7 @@ use Rattle.laws.specs.Blocks.{table}
 use Rattle.rules.specs.Lists.{overwrite}
 use Rattle.rules.specs.Replies.{maxBytes, barge, Reply, accepted, isTooLong}
 use Rattle.rules.specs.Records.{lineSize, Header, header}
-use Rattle.rules.specs.Page.{Page, Lent, Sizes, sizes, headerAfter, pageRecords, pageText, freshReply, freshLines}
+use Rattle.rules.specs.Page.{Page, Lent, Sizes, sizes, headerAfter, pageRecords, pageText, freshReply, freshLines, freshLent}
 use Rattle.rules.specs.StopRule.{Edit}
 use Rattle.rules.specs.Edit.{EditPost}
 use Rattle.rules.specs.History.{Chain, none, call, Holds, Agrees, paperText}
@@ -25,7 +25,7 @@ use Rattle.rules.proofs.PageLaws.{fresh-inverse}
 use Rattle.page.specs.Answers.{editNumbers, lent, lentAfter}
 use Rattle.page.specs.declared.EditAnswer.{EditAnswer}
 use Rattle.page.specs.declared.EditAnswer.the-variants.{Edited, TooLong, Malformed, Fails, TooDeep, ShortText, ShortSpare, ShortLines, ShortTokens, Outside, Unfit}
-use Rattle.page.proofs.FreshPages.{fresh-long}
+use Rattle.page.proofs.FreshPages.{fresh-long, fresh-post}
 use Rattle.page.proofs.PageHistory.{history}
 use Rattle.planning.proofs.Plans.{short-text}
 use Rattle.history.specs.Lists.{editAt, editsOf, lastReply, SmallAnswer, Happened}
@@ -113,18 +113,29 @@ module _ (text₀ spare₀ fresh₀ tokens₀ edits bytes : List ℕ) where
       }
 
   module _ (lines₀ : List ℕ) (long : lineSize ≤ length lines₀) (is-fresh : fresh₀ ≡ freshLines lines₀) where
-    agreed : {i : ℕ} {reply : Reply} {last : Lent} (v : SoFar i reply last) → Agrees (sizes (lent (header 0 0 0) text₀ spare₀ lines₀ tokens₀)) [] (editsOf edits bytes i) (v .replies) last
+    abbrev lent₀ : Lent
+    lent₀ = lent (header 0 0 0) text₀ spare₀ lines₀ tokens₀
+
+    fresh-reply : (0 ∷ 0 ∷ 0 ∷ 0 ∷ []) ≡ freshReply (length lines₀)
+    fresh-reply = fresh-long lines₀ long (overwrite (replicate 21 0) lines₀) refl .0
+
+    first-is : first ≡ freshLent lent₀
+    unfolding headerAfter
+    first-is = fresh-post (header 0 0 0) text₀ spare₀ lines₀ tokens₀ fresh₀ (0 ∷ 0 ∷ 0 ∷ 0 ∷ []) fresh-reply is-fresh .lent-is
+
+    agreed : {i : ℕ} {reply : Reply} {last : Lent} (v : SoFar i reply last) → Agrees (sizes lent₀) [] (freshLent lent₀) (editsOf edits bytes i) (v .replies) last
     unfolding headerAfter
     agreed {i} {reply} {last} v =
-        history (header 0 0 0) text₀ spare₀ lines₀ tokens₀ fresh₀ (0 ∷ 0 ∷ 0 ∷ 0 ∷ []) (fresh-long lines₀ long (overwrite (replicate 21 0) lines₀) refl .0) is-fresh long
-        (editsOf edits bytes i) (v .replies) last (v .chain) .1
+        subst (λ (x : Lent). Agrees (sizes lent₀) [] x (editsOf edits bytes i) (v .replies) last) first-is
+        (history (header 0 0 0) text₀ spare₀ lines₀ tokens₀ fresh₀ (0 ∷ 0 ∷ 0 ∷ 0 ∷ []) fresh-reply is-fresh long .1
+        (editsOf edits bytes i) (v .replies) last (v .chain))
 
-    pub happened : {i : ℕ} {reply : Reply} {last : Lent} → SoFar i reply last → Happened (lent (header 0 0 0) text₀ spare₀ lines₀ tokens₀) (editsOf edits bytes i) reply last
+    pub happened : {i : ℕ} {reply : Reply} {last : Lent} → SoFar i reply last → Happened lent₀ (editsOf edits bytes i) reply last
     happened v = record { replies = v .replies; agrees = agreed v; last-is = v .last-is }
 
     pub small-last : {i : ℕ} (h : Header) (text spare lines tokens : List ℕ) (r : EditAnswer) → SoFar i (editNumbers r) (lentAfter h (editNumbers r) text spare lines tokens) → SmallAnswer r
     small-last {i} h text spare lines tokens r v =
-        small-held (sizes (lent (header 0 0 0) text₀ spare₀ lines₀ tokens₀)) _ h text spare lines tokens r (agreed v .holds)
+        small-held (sizes lent₀) _ h text spare lines tokens r (agreed v .holds)
 
 -- The header after an answer.
 module _ (n m k : ℕ) where

@@ -6,7 +6,7 @@ use lib.ListN.{length, getD, take, drop}
 use Rattle.laws.specs.Blocks.{table}
 use Rattle.rules.specs.Replies.{Reply, accepted}
 use mathlib.Core.Path.{_≡_}
-use Rattle.rules.specs.Page.{Lent, sizes}
+use Rattle.rules.specs.Page.{Lent, sizes, freshLent}
 use Rattle.rules.specs.StopRule.{Edit}
 use Rattle.rules.specs.History.{Agrees}
 use Rattle.planning.specs.Plans.{editOf}
@@ -43,8 +43,9 @@ SmallAnswer (ShortTokens n) = Unit {0}
 SmallAnswer Outside = Unit {0}
 SmallAnswer Unfit = Unit {0}
 
--- the history on paper, from the empty text: with its replies, the last of which is this one, and what is lent at the end
+-- the history on paper, from the empty text and the fresh page of what was lent: with its replies, the last of which is this one, and what
+-- is lent at the end
 pub record Happened (q : Lent) (es : List Edit) (reply : Reply) (last : Lent) : Type 0 where
   pub replies : List Reply
-  pub agrees : Agrees (sizes q) [] es replies last
+  pub agrees : Agrees (sizes q) [] (freshLent q) es replies last
   pub last-is : reply ≡ lastReply replies

@@ -1,7 +1,7 @@
 -- Demand 3: every list of edits from the fresh page leaves what the history on paper says.
 -- Assumes nothing.
 use Prim.Native.Nat.{ℕ, zero, suc, _≤_}
-use mathlib.Core.Path.{_≡_, refl, sym, ap, _∙_}
+use mathlib.Core.Path.{_≡_, refl, ap, _∙_}
 use mathlib.Core.Bool.{true}
 use mathlib.Core.List.{List, [], _∷_, _++_}
 use native.Mathlib.Omega.{arith}
@@ -16,7 +16,7 @@ use Rattle.rules.specs.Records.{lineSize, lineNeed, tokenNeed, header, h
 use Rattle.rules.specs.Page.{Page, Lent, Sizes, sizes, pageText, pageRecords, Faithful, headerAfter, freshReply, freshLines, freshPage, FreshPost}
 use Rattle.rules.specs.StopRule.{Edit, edited, rereadCount}
 use Rattle.rules.specs.Edit.{Outcome, early, late, done, outcome, replyOf, after, EditPost}
-use Rattle.rules.specs.History.{Chain, none, call, textAfter, paperNext, paperText, paperReplies, Proper, Room, LongEnough, Settled, Holds, Agrees, Demand3}
+use Rattle.rules.specs.History.{none, call, textAfter, paperNext, paperText, paperReplies, paperLent, Proper, Room, LongEnough, Settled, Holds, Demand3From, Demand3}
 use Rattle.rules.proofs.BufferLaws.{length-overwrite, overwrite-take}
 use Rattle.rules.proofs.RecordLaws.{fresh-sizes, fresh-empty}
 use Rattle.rules.proofs.PageLaws.{Fits, faithful-fits, fresh-inverse, fresh-lines, unread-refused, page-length}
@@ -43,6 +43,21 @@ module _ {z : Sizes} {t : List ℕ} {q : Lent} (h : Holds z t q) where
         omega (arith, ap (λ (x : Sizes). x .lines) (h .sizes-are), holds-fits .lines),
         omega (arith, ap (λ (x : Sizes). x .tokens) (h .sizes-are), holds-fits .tokens),
       )
+
+-- the records of a text written into buffers that have room for them, under a text buffer that begins with it
+pub written-holds : (t : List ℕ) (r : Records) (text spare lines tokens : List ℕ) → freshReading t ≡ recorded r → take (length t) text ≡ t
+    → lineNeed (r .head .m) ≤ length lines → tokenNeed (r .head .k) ≤ length tokens
+    → Holds (record { text = length text; spare = length spare; lines = length lines; tokens = length tokens }) t
+    (record { page = record { head = r .head; text = text; lines = overwrite (r .lines) lines; tokens = overwrite (r .tokens) tokens }; spare = spare })
+written-holds t r text spare lines tokens g b hl ht =
+    let fs = fresh-sizes t r (fresh-inverse t r g .2) in
+    let el : length (overwrite (r .lines) lines) ≡ length lines = length-overwrite (r .lines) lines (omega (arith, fs .1)) in
+    let et : length (overwrite (r .tokens) tokens) ≡ length tokens = length-overwrite (r .tokens) tokens (omega (arith, fs .2)) in
+    record {
+      text-is = ap (λ (n : ℕ). take n text) (fs .0) ∙ b;
+      records-are = g ∙ rw (overwrite-take (r .lines) lines (lineNeed (r .head .m)) (fs .1), overwrite-take (r .tokens) tokens (tokenNeed (r .head .k)) (fs .2));
+      sizes-are = λ i. record { text = length text; spare = length spare; lines = el i; tokens = et i };
+    }
 
 -- One edit on paper.
 
@@ -93,21 +108,18 @@ keeps z t ed q o h (isLate r s h1 h2) =
     }
 keeps z t ed q o h (isDone r p h1 h2 g h3 h4) =
     let u : List ℕ = edited t ed in
-    let fs = fresh-sizes u r (fresh-inverse u r g .2) in
     let e1 : length (overwrite u (q .page .text)) ≡ length (q .page .text) = length-overwrite u (q .page .text) (omega (arith, ap (λ (y : Sizes). y .text) (h .sizes-are))) in
     let e2 : length (overwrite u (q .spare)) ≡ length (q .spare) = length-overwrite u (q .spare) (omega (arith, ap (λ (y : Sizes). y .spare) (h .sizes-are))) in
-    let e3 : length (overwrite (r .lines) (q .page .lines)) ≡ length (q .page .lines) =
-    length-overwrite (r .lines) (q .page .lines) (omega (arith, ap (λ (y : Sizes). y .lines) (h .sizes-are), fs .1)) in
-    let e4 : length (overwrite (r .tokens) (q .page .tokens)) ≡ length (q .page .tokens) =
-    length-overwrite (r .tokens) (q .page .tokens) (omega (arith, ap (λ (y : Sizes). y .tokens) (h .sizes-are), fs .2)) in
+    let w = written-holds u r (overwrite u (q .page .text)) (overwrite u (q .spare)) (q .page .lines) (q .page .tokens) g (overwrite-take u (q .page .text) (length u) refl)
+    (omega (arith, ap (λ (y : Sizes). y .lines) (h .sizes-are))) (omega (arith, ap (λ (y : Sizes). y .tokens) (h .sizes-are))) in
     record {
-      text-is = overwrite-take u (q .page .text) (r .head .n) (sym (fs .0));
-      records-are = g ∙ rw (overwrite-take (r .lines) (q .page .lines) (lineNeed (r .head .m)) (fs .1), overwrite-take (r .tokens) (q .page .tokens) (tokenNeed (r .head .k)) (fs .2));
-      sizes-are = (λ i. record { text = e1 i; spare = e2 i; lines = e3 i; tokens = e4 i }) ∙ h .sizes-are;
+      text-is = w .text-is;
+      records-are = w .records-are;
+      sizes-are = w .sizes-are ∙ (λ i. record { text = e1 i; spare = e2 i; lines = length (q .page .lines); tokens = length (q .page .tokens) }) ∙ h .sizes-are;
     }
 
 pub one-edit : (z : Sizes) (t : List ℕ) (q : Lent) (ed : Edit) (reply : Reply) (q′ : Lent) → Holds z t q → EditPost q ed reply q′
-    → (reply ≡ replyOf (outcome z t ed)) × Holds z (paperNext z t ed) q′
+    → (reply ≡ replyOf (outcome z t ed)) × (q′ ≡ after q (edited t ed) (outcome z t ed)) × Holds z (paperNext z t ed) q′
 unfolding paperNext
 one-edit z t q ed reply q′ h post =
     let o : post .came ≡ outcome z t ed =
@@ -115,19 +127,20 @@ one-edit z t q ed reply q′ h post =
     ∙ ap (λ (y : Sizes). outcome y (pageText (q .page)) ed) (h .sizes-are) ∙ ap (λ (x : List ℕ). outcome z x ed) (h .text-is) in
     let l : q′ ≡ after q (edited t ed) (outcome z t ed) =
     post .lent-is ∙ ap (after q (edited (pageText (q .page)) ed)) o ∙ ap (λ (x : List ℕ). after q (edited x ed) (outcome z t ed)) (h .text-is) in
-    (post .reply-is ∙ ap replyOf o, rw l (keeps z t ed q (outcome z t ed) h (outcome-sound z t ed)))
+    (post .reply-is ∙ ap replyOf o, l, rw l (keeps z t ed q (outcome z t ed) h (outcome-sound z t ed)))
 
 -- The whole list.
 
-pub list-of-edits : (z : Sizes) (t : List ℕ) (q q′ : Lent) (es : List Edit) (rs : List Reply) → Holds z t q → Chain EditPost q es rs q′ → Agrees z t es rs q′
-unfolding paperText paperReplies
-list-of-edits z t q q′ es rs h none = record { replies = refl; settled = none; holds = h }
-list-of-edits z t q q′ es rs h (call {q = mid} {c = ed} {cs = rest} {r = r} {rs = more} post tail) =
+pub list-of-edits : {z : Sizes} {t : List ℕ} {q : Lent} → Holds z t q → Demand3From z t q
+unfolding paperText paperReplies paperLent
+list-of-edits h es rs last none = record { replies = refl; lent-is = refl; settled = none; holds = h }
+list-of-edits {z} {t} {q} h es rs last (call {q = mid} {c = ed} {cs = rest} {r = r} {rs = more} post tail) =
     let o = one-edit z t q ed r mid h post in
     let s : Settled z t ed r (paperNext z t ed) = rw (o .0) (settled z t ed (holds-text h) (holds-room h)) in
-    let f = list-of-edits z (paperNext z t ed) mid q′ rest more (o .1) tail in
+    let f = list-of-edits (o .2) rest more last tail in
     record {
       replies = λ i. o .0 i ∷ f .replies i;
+      lent-is = f .lent-is ∙ ap (λ (x : Lent). paperLent z x (paperNext z t ed) rest) (o .1);
       settled = call s (f .settled);
       holds = f .holds;
     }
@@ -152,18 +165,15 @@ fresh-head pg h = rw (fresh-reply (length (pg .lines)) h)
 
 pub fresh-holds : (q q′ : Lent) (reply : Reply) → lineSize ≤ length (q .page .lines) → FreshPost q reply q′
     → (reply ≡ accepted (0 ∷ 0 ∷ 0 ∷ [])) × Holds (sizes q) [] q′
-fresh-holds q q′ reply h post =
-    let e : length (overwrite (replicate lineSize 0) (q .page .lines)) ≡ length (q .page .lines) = length-overwrite (replicate lineSize 0) (q .page .lines) h in (
-      post .reply-is ∙ fresh-reply (length (q .page .lines)) h,
-      rw (post .lent-is, fresh-head (q .page) h, fresh-lines-are (q .page .lines) h) record {
-        text-is = refl;
-        records-are = empty-fresh ∙ fresh-empty ∙ rw (overwrite-take (replicate lineSize 0) (q .page .lines) lineSize refl);
-        sizes-are = λ i. record { text = length (q .page .text); spare = length (q .spare); lines = e i; tokens = length (q .page .tokens) };
-      },
-    )
+unfolding overwrite
+fresh-holds q q′ reply h post = (
+  post .reply-is ∙ fresh-reply (length (q .page .lines)) h,
+  rw (post .lent-is, fresh-head (q .page) h, fresh-lines-are (q .page .lines) h)
+      (written-holds [] _ (q .page .text) (q .spare) (q .page .lines) (q .page .tokens) (empty-fresh ∙ fresh-empty) refl h (omega arith)),
+)
 
 -- DEMAND 3
 pub demand-3 : Demand3
-demand-3 lent first last reply es rs h post edits =
+demand-3 lent first reply h post =
     let f = fresh-holds lent first reply h post in
-    (f .0, list-of-edits (sizes lent) [] first last es rs (f .1) edits)
+    (f .0, list-of-edits (f .1))

@@ -9,7 +9,7 @@ use Rattle.rules.specs.Replies.{Unread, Refusal, reading, Reply, numbere
 use Rattle.rules.specs.Records.{lineSize, lineNeed, tokenNeed, headerWords, Records, recorded, unread, freshReading}
 use Rattle.rules.specs.Page.{Page, Lent, Sizes, sizes, pageText, pageRecords, FreshPost}
 use Rattle.rules.specs.StopRule.{Edit, edited, rereadCount}
-use Rattle.rules.specs.Edit.{Outcome, early, late, done, outcome, replyOf, EditPost}
+use Rattle.rules.specs.Edit.{Outcome, early, late, done, outcome, replyOf, after, EditPost}
 
 -- calls in a row, each on what the last one left: P is what a call works on, C a call, R its reply
 pub data Chain {P C R : Type 0} (Post : P → C → R → P → Type 0) : P → List C → List R → P → Type 0 where
@@ -33,6 +33,11 @@ paperText z t (ed ∷ es) = paperText z (paperNext z t ed) es
 unfoldable pub paperReplies : Sizes → List ℕ → List Edit → List Reply
 paperReplies z t [] = []
 paperReplies z t (ed ∷ es) = replyOf (outcome z t ed) ∷ paperReplies z (paperNext z t ed) es
+
+-- what is lent after the edits, to the last byte and word: each leaves what its outcome leaves
+unfoldable pub paperLent : Sizes → Lent → (t : List ℕ) → List Edit → Lent
+paperLent z q t [] = q
+paperLent z q t (ed ∷ es) = paperLent z (after q (edited t ed) (outcome z t ed)) (paperNext z t ed) es
 
 -- What settles one edit of the text t, in buffers of the lengths z.
 
@@ -70,16 +75,20 @@ pub record Holds (z : Sizes) (t : List ℕ) (q : Lent) : Type 0 where
   pub records-are : freshReading t ≡ recorded (pageRecords (q .page))
   pub sizes-are : sizes q ≡ z
 
--- a list of edits from the text t agrees with the history on paper: so do the replies; each edit is settled as above; and the
--- buffers then hold the text and its fresh reading
-pub record Agrees (z : Sizes) (t : List ℕ) (es : List Edit) (rs : List Reply) (last : Lent) : Type 0 where
+-- a list of edits from the text t agrees with the history on paper: so do the replies and all that is lent at the end; each edit is
+-- settled as above; and the buffers then hold the text and its fresh reading
+pub record Agrees (z : Sizes) (t : List ℕ) (first : Lent) (es : List Edit) (rs : List Reply) (last : Lent) : Type 0 where
   pub replies : rs ≡ paperReplies z t es
+  pub lent-is : last ≡ paperLent z first t es
   pub settled : Chain (Settled z) t es rs (paperText z t es)
   pub holds : Holds z (paperText z t es) last
 
--- DEMAND 3: after the fresh page, every list of edits agrees with the history on paper from the empty text
+-- every list of edits, each on what the last one left, agrees with the history on paper from the text t
+abbrev pub Demand3From : Sizes → (t : List ℕ) → (first : Lent) → Type 0
+Demand3From z t first = (es : List Edit) (rs : List Reply) (last : Lent) → Chain EditPost first es rs last → Agrees z t first es rs last
+
+-- DEMAND 3: so it is after the fresh page, from the empty text
 abbrev pub Demand3 : Type 0
 Demand3 =
-    (lent first last : Lent) (reply : Reply) (es : List Edit) (rs : List Reply)
-    → lineSize ≤ length (lent .page .lines) → FreshPost lent reply first → Chain EditPost first es rs last
-    → (reply ≡ accepted (0 ∷ 0 ∷ 0 ∷ [])) × Agrees (sizes lent) [] es rs last
+    (lent first : Lent) (reply : Reply) → lineSize ≤ length (lent .page .lines) → FreshPost lent reply first
+    → (reply ≡ accepted (0 ∷ 0 ∷ 0 ∷ [])) × Demand3From (sizes lent) [] first

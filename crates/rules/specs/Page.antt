@@ -97,10 +97,13 @@ freshPage pg =
       tokens = pg .tokens;
     }
 
+abbrev pub freshLent : Lent → Lent
+freshLent q = record { page = freshPage (q .page); spare = q .spare }
+
 -- THE CONTRACT of the fresh page's call: its reply and what is lent afterwards
 pub record FreshPost (q : Lent) (reply : Reply) (q′ : Lent) : Type 0 where
   pub reply-is : reply ≡ freshReply (length (q .page .lines))
-  pub lent-is : q′ ≡ record { page = freshPage (q .page); spare = q .spare }
+  pub lent-is : q′ ≡ freshLent q
 
 -- opens the definitions above, and those of the modules below, where a proof says `unfolding pageRules`
 unfoldable pub pageRules : Unit {0}
