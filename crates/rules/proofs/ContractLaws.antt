@@ -6,14 +6,13 @@ use mathlib.Core.Bool.{Bool, true, false, not}
 use mathlib.Core.List.{List, [], _∷_}
 use mathlib.Core.Option.{Option, none, some}
 use native.Mathlib.Omega.{arith}
-use lib.Dec.{ltb}
 use lib.ListN.{length}
 use borrow.Author.Tests.{ltb-false}
-use Rattle.rules.specs.Lists.{if_then_else_, bit, overwrite}
+use Rattle.rules.specs.Lists.{bit, overwrite}
 use Rattle.rules.specs.Line.{initial, Halt, failed, overLimit}
 use Rattle.rules.specs.Reading.{linesOf, Reading, reads, halts, readFrom, byteSum}
 use Rattle.rules.specs.Failure.{failureRecord}
-use Rattle.rules.specs.Replies.{maxBytes, isTooLong, barge, Unread, Refusal, reading, short, unfit, Reply, numbered, accepted, linesBuffer, tokensBuffer, refusedIf, firstOf, unless}
+use Rattle.rules.specs.Replies.{maxBytes, isTooLong, barge, Unread, Refusal, reading, unfit, Reply, numbered, accepted, refusedIf, firstOf, unless}
 use Rattle.rules.specs.Records.{lineNeed, tokenNeed, Records, recordsOf, recordTests, haltRefusal, recordedBy, FreshReading, recorded, unread, readLines}
 use Rattle.rules.specs.Page.{Page, Lent, Sizes, sizes, fits, pageText, Faithful, isFaithful}
 use Rattle.rules.specs.StopRule.{Edit, edited, rereadCount}
@@ -23,7 +22,7 @@ use Rattle.rules.specs.History.{Chain, call, textAfter, Holds}
 use Rattle.rules.proofs.BufferLaws.{length-overwrite, overwrite-take}
 use Rattle.rules.proofs.RecordLaws.{fresh-sizes}
 use Rattle.rules.proofs.PageLaws.{Fits, fits-true, true-fits, faithful-fits, fresh-lines, fresh-inverse, faithful-iff}
-use Rattle.rules.proofs.GateLaws.{Passed, stopsEarly, stopsLate, clear, gate-passed, Sound, isEarly, isLate, isDone, outcome-sound}
+use Rattle.rules.proofs.GateLaws.{Passed, stopsEarly, stopsLate, clear, gate-passed, RoomCases, enough, room-cases}
 use Rattle.rules.proofs.BoundLaws.{fresh-small}
 use Rattle.rules.proofs.HistoryLaws.{holds-faithful, holds-fits}
 
@@ -76,26 +75,23 @@ halt-free q u p l (failed f) = failure (failureRecord p l f)
 halt-free q u p l overLimit = deep l
 
 stored-free : (q : Lent) (u : List ℕ) (count : ℕ) → length u ≤ maxBytes → Free q u (stored (sizes q) count (readLines barge u))
-unfolding readLines recordedBy stored recordTests firstOf unless refusedIf
+unfolding readLines recordedBy stored unless
 stored-free q u count small = go (readFrom (barge .levels) initial (linesOf u)) refl
   where
-    tests : (r : Records) → readLines barge u ≡ recorded r → (b0 : Bool) → ltb (length (q .page .lines)) (lineNeed (r .head .m)) ≡ b0
-        → (b1 : Bool) → ltb (length (q .page .tokens)) (tokenNeed (r .head .k)) ≡ b1
-        → Free q u
-        (unless (firstOf ((if b0 then some (short linesBuffer (lineNeed (r .head .m))) else none) ∷ (if b1 then some (short tokensBuffer (tokenNeed (r .head .k))) else none) ∷ []))
-        late (done r count))
-    tests r e true e0 b1 e1 = fewLines _
-    tests r e false e0 true e1 = fewTokens _
-    tests r e false e0 false e1 =
+    tests : (r : Records) → readLines barge u ≡ recorded r → (o : Option Refusal) → RoomCases (length (q .page .lines)) (length (q .page .tokens)) r o
+        → Free q u (unless o late (done r count))
+    tests r e o RoomCases.fewLines = fewLines _
+    tests r e o RoomCases.fewTokens = fewTokens _
+    tests r e o (enough x y) =
         let fs = fresh-sizes u r e in
         let sm = fresh-small u r small e in
-        acceptance r count (fs .0) (omega (arith, sm .m-le, sm .n-le)) (omega (arith, sm .k-le, sm .n-le)) (fs .1) (fs .2) (ltb-false _ _ e0) (ltb-false _ _ e1)
+        acceptance r count (fs .0) (omega (arith, sm .m-le, sm .n-le)) (omega (arith, sm .k-le, sm .n-le)) (fs .1) (fs .2) x y
 
     go : (x : Reading) → readFrom (barge .levels) initial (linesOf u) ≡ x → Free q u (stored (sizes q) count (recordedBy barge x))
     go (halts es h) e = halt-free q u (byteSum es) (suc (length es)) h
     go (reads es z) e =
-        tests (recordsOf es z) (ap (recordedBy barge) e) (ltb (length (q .page .lines)) (lineNeed (recordsOf es z .head .m))) refl
-        (ltb (length (q .page .tokens)) (tokenNeed (recordsOf es z .head .k))) refl
+        tests (recordsOf es z) (ap (recordedBy barge) e) (firstOf (recordTests (length (q .page .lines)) (length (q .page .tokens)) (recordsOf es z)))
+        (room-cases (length (q .page .lines)) (length (q .page .tokens)) (recordsOf es z))
 
 -- what comes to pass on a faithful page is allowed on every page that fits
 outcome-allowed : (q : Lent) (ed : Edit) → Allowed q (edited (pageText (q .page)) ed) (gate (sizes q) (pageText (q .page)) ed) (outcome (sizes q) (pageText (q .page)) ed)

@@ -122,6 +122,22 @@ module _ (lines tokens : ℕ) (r : Records) where
   unfolding recordTests firstOf refusedIf
   room-tokens k h = rw (le-ltb lines (lineNeed (r .head .m)) k, lt-ltb tokens (tokenNeed (r .head .k)) h)
 
+  pub data RoomCases : Option Refusal → Type 0 where
+    fewLines : RoomCases (some (short linesBuffer (lineNeed (r .head .m))))
+    fewTokens : RoomCases (some (short tokensBuffer (tokenNeed (r .head .k))))
+    enough : lineNeed (r .head .m) ≤ lines → tokenNeed (r .head .k) ≤ tokens → RoomCases none
+
+  pub room-cases : RoomCases (firstOf (recordTests lines tokens r))
+  unfolding recordTests firstOf refusedIf
+  room-cases = tests (ltb lines (lineNeed (r .head .m))) refl (ltb tokens (tokenNeed (r .head .k))) refl
+    where
+      tests : (b0 : Bool) → ltb lines (lineNeed (r .head .m)) ≡ b0 → (b1 : Bool) → ltb tokens (tokenNeed (r .head .k)) ≡ b1
+          → RoomCases
+          (firstOf ((if b0 then some (short linesBuffer (lineNeed (r .head .m))) else none) ∷ (if b1 then some (short tokensBuffer (tokenNeed (r .head .k))) else none) ∷ []))
+      tests true e0 b1 e1 = fewLines
+      tests false e0 true e1 = fewTokens
+      tests false e0 false e1 = enough (ltb-false _ _ e0) (ltb-false _ _ e1)
+
 -- The outcome by cases.
 
 pub data Sound (z : Sizes) (t : List ℕ) (ed : Edit) : Outcome → Type 0 where
@@ -133,17 +149,14 @@ pub data Sound (z : Sizes) (t : List ℕ) (ed : Edit) : Outcome → Type 0 where
 
 stored-sound : (z : Sizes) (t : List ℕ) (ed : Edit) → Proper t ed → length (edited t ed) ≤ z .text → length (edited t ed) ≤ z .spare
     → (f : FreshReading) → freshReading (edited t ed) ≡ f → Sound z t ed (stored z (rereadCount t ed) f)
-unfolding stored recordTests firstOf unless refusedIf numbered isRefused
+unfolding stored unless numbered isRefused
 stored-sound z t ed p h k (unread u) e = isLate (reading u) (unread-refused (edited t ed) u e) h k
-stored-sound z t ed p h k (recorded r) e = tests (ltb (z .lines) (lineNeed (r .head .m))) refl (ltb (z .tokens) (tokenNeed (r .head .k))) refl
+stored-sound z t ed p h k (recorded r) e = go (firstOf (recordTests (z .lines) (z .tokens) r)) (room-cases (z .lines) (z .tokens) r)
   where
-    tests : (b0 : Bool) → ltb (z .lines) (lineNeed (r .head .m)) ≡ b0 → (b1 : Bool) → ltb (z .tokens) (tokenNeed (r .head .k)) ≡ b1
-        → Sound z t ed
-        (unless (firstOf ((if b0 then some (short linesBuffer (lineNeed (r .head .m))) else none) ∷ (if b1 then some (short tokensBuffer (tokenNeed (r .head .k))) else none) ∷ []))
-        late (done r (rereadCount t ed)))
-    tests true e0 b1 e1 = isLate _ refl h k
-    tests false e0 true e1 = isLate _ refl h k
-    tests false e0 false e1 = isDone r p h k e (ltb-false _ _ e0) (ltb-false _ _ e1)
+    go : (o : Option Refusal) → RoomCases (z .lines) (z .tokens) r o → Sound z t ed (unless o late (done r (rereadCount t ed)))
+    go o fewLines = isLate _ refl h k
+    go o fewTokens = isLate _ refl h k
+    go o (enough x y) = isDone r p h k e x y
 
 pub outcome-sound : (z : Sizes) (t : List ℕ) (ed : Edit) → Sound z t ed (outcome z t ed)
 unfolding outcome through

@@ -14,6 +14,7 @@ pub mod MendLaws
 pub mod PageLaws
 pub mod GateLaws
 pub mod HistoryLaws
+pub mod UseLaws
 pub mod ContractLaws
 pub mod MovedLaws
 pub mod LoopLaws

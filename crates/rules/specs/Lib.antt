@@ -13,6 +13,7 @@ pub mod StopRule
 pub mod Edit
 pub mod History
 pub mod Read
+pub mod Use
 pub mod Check
 pub mod TokenText
 pub mod Walk
