@@ -10,12 +10,11 @@ use lib.Seq.{length-take-le}
 use Rattle.rules.specs.Lists.{begins}
 use Rattle.rules.specs.Line as rules-line
 use Rattle.rules.specs.Line.{Token, dedents, LineReply, lineReads, lineHalts, readLine}
-use Rattle.rules.specs.Reading.{Line, linesOf, content, readFrom}
+use Rattle.rules.specs.Reading.{Line, linesOf, content, readFrom, lineAt, sizeAt}
 use Rattle.rules.specs.Replies.{barge}
 use Rattle.rules.specs.Records.{lineNeed, tokenNeed, lineRecord, tokenWords, header, readLines}
 use Rattle.rules.specs.Page.{isRecorded}
 use Rattle.rules.proofs.LineLaws.{firstSize-le, lines-at, content-first}
-use Rattle.rules.proofs.LoopLaws.{lineAt, sizeAt}
 use Rattle.line.specs.States.{stateOf}
 use Rattle.line.specs.LineCuts.{tokensIn, counted}
 use Rattle.line.specs.declared.State.{State}

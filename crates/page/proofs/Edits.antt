@@ -13,7 +13,7 @@ use Rattle.rules.specs.Lists.{overwrite}
 use Rattle.rules.specs.Utf8.{wellFormedPrefix}
 use Rattle.rules.specs.Reading.{linesOf, Reading, byteSum, tokenSum}
 use Rattle.rules.specs.Replies.{maxBytes, maxLevels, barge, Refusal, reading, lexical, atLine, short, outside, unfit, numbered, numberedUnread, failureWords, textBuffer, spareBuffer, linesBuffer, tokensBuffer, refusedIf, firstOf, unless, isTooLong, tooLongBy, isMalformed, malformedBy}
-use Rattle.rules.specs.Records.{lineNeed, tokenNeed, lineRecords, tokenRecords, header, endEntry, withEnd, Records, recordsOf, recordTests, recordedBy, recorded, readLines}
+use Rattle.rules.specs.Records.{lineNeed, tokenNeed, lineRecords, tokenRecords, header, endEntry, withEnd, Records, recordsOf, recordTests, recordedBy, recorded, readLines, Behind}
 use Rattle.rules.specs.Line.{initial}
 use Rattle.rules.specs.Page.{Page, Lent, sizes, fits, pageText, pageRecords, Faithful, headerAfter}
 use Rattle.rules.specs.StopRule.{Edit, edited, rereadCount}
@@ -21,7 +21,7 @@ use Rattle.rules.specs.Edit.{early, late, done, gate, stored, replyOf, after, F
 use Rattle.rules.specs.History.{Proper}
 use Rattle.rules.proofs.LineLaws.{total-lines}
 use Rattle.rules.proofs.ReadingLaws.{read-sizes}
-use Rattle.rules.proofs.RecordLaws.{Behind, behind, length-lineRecords, length-tokenRecords}
+use Rattle.rules.proofs.RecordLaws.{behind, length-lineRecords, length-tokenRecords}
 use Rattle.rules.proofs.EditedLaws.{length-edited}
 use Rattle.rules.proofs.BufferLaws.{overwrite-take}
 use Rattle.rules.proofs.PageLaws.{fits-true, page-length, fresh-inverse}
@@ -35,7 +35,7 @@ use Rattle.planning.specs.declared.Plan.{Plan}
 use Rattle.planning.specs.declared.PlanAnswer.{PlanAnswer}
 use Rattle.planning.specs.declared.PlanAnswer.the-variants as plan
 use Rattle.writing.proofs.Writes.{written-sizes}
-use Rattle.writing.specs.Writes.{written, lineTail, tokenTail, lineWords, tokenWords}
+use Rattle.writing.specs.Writes.{written, lineTail, tokenTail, writtenLines, writtenTokens}
 use Rattle.page.specs.Answers.{editNumbers, lent, lentAfter}
 use Rattle.page.specs.declared.EditAnswer.{EditAnswer}
 use Rattle.page.specs.declared.EditAnswer.the-variants.{Edited, TooLong, Malformed, Fails, TooDeep, ShortText, ShortSpare, ShortLines, ShortTokens, Outside, Unfit}
@@ -235,7 +235,7 @@ module _ (q : Lent) (ed : Edit) where
           k′ = tokensAfter p k
 
           abbrev r : Records
-          r = record { head = header size m′ k′; lines = lineWords u lines m p; tokens = tokenWords u lines tokens k p }
+          r = record { head = header size m′ k′; lines = writtenLines u lines m p; tokens = writtenTokens u lines tokens k p }
 
           counted : (p .lines ≡ length (written u lines p)) × (p .tokens ≡ tokenSum (written u lines p))
           counted = written-sizes pl
@@ -265,10 +265,10 @@ module _ (q : Lent) (ed : Edit) where
             n-is : size ≡ byteSum (mends bh .entries)
             n-is = es ∙ sym (read-sizes maxLevels initial (linesOf u) (mends bh .entries) (mends bh .last) (mends bh .reads-are) .1 ∙ total-lines u)
 
-            all-lines : lineWords u lines m p ≡ lineRecords 0 0 (withEnd (mends bh .entries) (mends bh .last))
+            all-lines : writtenLines u lines m p ≡ lineRecords 0 0 (withEnd (mends bh .entries) (mends bh .last))
             all-lines = line-words n m k text lines tokens ed bh (omega (arith, es)) p pl (mends bh)
 
-            all-tokens : tokenWords u lines tokens k p ≡ tokenRecords 0 1 (withEnd (mends bh .entries) (mends bh .last))
+            all-tokens : writtenTokens u lines tokens k p ≡ tokenRecords 0 1 (withEnd (mends bh .entries) (mends bh .last))
             all-tokens = token-words n m k text lines tokens ed bh (omega (arith, es)) p pl (mends bh)
 
             m-is : m′ ≡ length (mends bh .entries)

@@ -10,11 +10,11 @@ use lib.Seq.{take-take, drop-append-le, length-take-le}
 use Rattle.rules.specs.Line.{State}
 use Rattle.rules.specs.Reading.{Entry, byteSum, tokenSum}
 use Rattle.rules.specs.Replies.{barge}
-use Rattle.rules.specs.Records.{lineNeed, tokenNeed, lineRecords, tokenRecords, endEntry, withEnd, Records, recordsOf, recordedBy, recorded, readLines}
+use Rattle.rules.specs.Records.{lineNeed, tokenNeed, lineRecords, tokenRecords, endEntry, withEnd, Records, recordsOf, recordedBy, recorded, readLines, Behind}
 use Rattle.rules.specs.Page.{pageText, pageRecords}
 use Rattle.rules.specs.StopRule.{Edit, edited}
 use Rattle.rules.proofs.ReadingLaws.{tokenSum-append}
-use Rattle.rules.proofs.RecordLaws.{Behind, lineRecords-append, lineRecords-take, lineRecords-drop, length-lineRecords, tokenRecords-append, tokenRecords-take, tokenRecords-drop, length-tokenRecords}
+use Rattle.rules.proofs.RecordLaws.{lineRecords-append, lineRecords-take, lineRecords-drop, length-lineRecords, tokenRecords-append, tokenRecords-take, tokenRecords-drop, length-tokenRecords}
 use Rattle.rules.proofs.BoundLaws.{AllLe, wordMax, Small, fresh-small}
 use Rattle.header.specs.Pages.{page}
 use Rattle.moving.specs.Moved.{movedLines, movedTokens}
@@ -22,7 +22,7 @@ use Rattle.moving.proofs.Shifts.{all-right, moved-line-records, moved-token-rec
 use Rattle.planning.specs.Plans.{Planned, Mends}
 use Rattle.planning.specs.declared.Plan.{Plan}
 use Rattle.writing.proofs.Writes.{written-sizes}
-use Rattle.writing.specs.Writes.{written, lineTail, tokenTail, lineWords, tokenWords}
+use Rattle.writing.specs.Writes.{written, lineTail, tokenTail, writtenLines, writtenTokens}
 
 -- where two lists that begin a buffer are cut
 cut-tail : (ws front : List ℕ) (n at : ℕ) → take n ws ≡ front → at ≤ length front → drop at ws ≡ drop at front ++ drop n ws
@@ -106,7 +106,7 @@ module _ (n m k : ℕ) (text lines tokens : List ℕ) (ed : Edit) (bh : Behind (
       ap (movedLines (p .old) (p .new) (p .from) (p .first + p .tokens) lines (p .j)) c
       ∙ moved-line-records (p .old) (p .new) (p .from) (p .first + p .tokens) lines (p .j) (drop (p .j) O) (drop (lineNeed m) lines) d lines-small
 
-  pub line-words : lineWords u lines m p ≡ lineRecords 0 0 E
+  pub line-words : writtenLines u lines m p ≡ lineRecords 0 0 E
   line-words =
       let t : take (21 * p .i) lines ≡ lineRecords 0 0 (take (p .i) O) =
       sym (take-take (21 * p .i) (lineNeed m) lines (omega (arith, pl .i-le))) ∙ ap (take (21 * p .i)) lines-are ∙ lineRecords-take 0 0 (p .i) O i-le in
@@ -145,7 +145,7 @@ module _ (n m k : ℕ) (text lines tokens : List ℕ) (ed : Edit) (bh : Behind (
       ap (movedTokens (p .old) (p .new) (p .j + 1) (p .i + p .lines + 1) tokens (p .from)) tail-sum
       ∙ moved-token-records (p .old) (p .new) (p .j + 1) (p .i + p .lines + 1) tokens (p .from) (drop (p .j) O) (drop (tokenNeed k) tokens) d tokens-small
 
-  pub token-words : tokenWords u lines tokens k p ≡ tokenRecords 0 1 E
+  pub token-words : writtenTokens u lines tokens k p ≡ tokenRecords 0 1 E
   token-words =
       let f : 5 * p .first ≡ 5 * tokenSum (take (p .i) O) = ap (λ (y : ℕ). 5 * y) (x .first-is) in
       let t : take (5 * p .first) tokens ≡ tokenRecords 0 1 (take (p .i) O) =

@@ -12,15 +12,15 @@ use lib.Seq.{take-take, take-all, take-append-le, length-take-le}
 use borrow.Author.Tests.{lt-ltb, le-ltb, ltb-true, ltb-false}
 use Rattle.rules.specs.Lists.{if_then_else_, bit}
 use Rattle.rules.specs.Line.{State, initial, tokenAt, Halt, failed, overLimit}
-use Rattle.rules.specs.Reading.{linesOf, countLF, Entry, Reading, reads, halts, readFrom, byteSum, tokenSum}
+use Rattle.rules.specs.Reading.{linesOf, countLF, Entry, Reading, reads, halts, readFrom, byteSum, tokenSum, stateAt}
 use Rattle.rules.specs.Replies.{maxBytes, maxLevels, barge, lexical, atLine, reading, short, linesBuffer, tokensBuffer, refusedIf, firstOf, unless, isTooLong}
-use Rattle.rules.specs.Records.{lineNeed, tokenNeed, packed, stateWords, lineRecords, endEntry, withEnd, Records, recordsOf, recordTests, haltRefusal, recordedBy, recorded, unread, readLines}
+use Rattle.rules.specs.Records.{lineNeed, tokenNeed, packed, stateWords, lineRecords, endEntry, withEnd, Records, recordsOf, recordTests, haltRefusal, recordedBy, recorded, unread, readLines, Behind}
 use Rattle.rules.specs.Page.{Page, pageText, pageRecords, Faithful}
 use Rattle.rules.specs.StopRule.{Edit, edited, rereadCount}
 use Rattle.rules.specs.Edit.{late, stored}
 use Rattle.rules.proofs.LineLaws.{total, drop-lines}
-use Rattle.rules.proofs.ReadingLaws.{stateAt, parts, read-sizes, byteSum-append, tokenSum-append}
-use Rattle.rules.proofs.RecordLaws.{Behind, behind}
+use Rattle.rules.proofs.ReadingLaws.{parts, read-sizes, byteSum-append, tokenSum-append}
+use Rattle.rules.proofs.RecordLaws.{behind}
 use Rattle.rules.proofs.StateLaws.{unpacked}
 use Rattle.rules.proofs.EditedLaws.{length-edited}
 use Rattle.rules.proofs.MendLaws.{kept-size, kept-length}

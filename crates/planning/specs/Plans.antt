@@ -11,11 +11,10 @@ use Rattle.rules.specs.Failure as rules-failure
 use Rattle.rules.specs.Line.{State, initial}
 use Rattle.rules.specs.Reading.{linesOf, countLF, Entry, Reading, reads, halts, readFrom, byteSum, tokenSum}
 use Rattle.rules.specs.Replies.{maxLevels, barge, Refusal, reading, lexical, atLine, short, unfit, linesBuffer, tokensBuffer}
-use Rattle.rules.specs.Records.{withEnd, readLines}
+use Rattle.rules.specs.Records.{withEnd, readLines, Behind}
 use Rattle.rules.specs.Page.{Page, fits, pageText, pageRecords, Faithful}
 use Rattle.rules.specs.StopRule.{Edit, edited, rereadCount}
 use Rattle.rules.specs.Edit.{Outcome, late, stored}
-use Rattle.rules.proofs.RecordLaws.{Behind}
 use Rattle.reading.specs.declared.FailureRecord.{FailureRecord}
 use Rattle.rereading.specs.Rewrites.{readFirst}
 use Rattle.planning.specs.Starts.{lineWord, stateFrom, isUsable}

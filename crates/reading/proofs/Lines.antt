@@ -14,13 +14,13 @@ use Rattle.rules.specs.Lists.{if_then_else_, run}
 use Rattle.rules.specs.Failure.{Failure, failureRecord}
 use Rattle.rules.specs.Line as rules-line
 use Rattle.rules.specs.Line.{initial, Token, tokenAt, dedents, Halt, failed, overLimit, LineReply, lineReads, lineHalts, readLine}
-use Rattle.rules.specs.Reading.{linesOf, notLF, Entry, entry, Reading, reads, halts, readFrom, byteSum, tokenSum}
+use Rattle.rules.specs.Reading.{linesOf, notLF, Entry, entry, Reading, reads, halts, readFrom, byteSum, tokenSum, firstSize, lineAt, sizeAt}
 use Rattle.rules.specs.Replies.{maxLevels}
 use Rattle.rules.specs.Records.{lineNeed, tokenNeed, lineRecord, lineRecords, tokenWords, tokenRecords, endEntry, withEnd, recordsOf}
-use Rattle.rules.proofs.LineLaws.{firstSize, firstSize-le, firstSize-lf, firstSize-end, firstSize-some}
+use Rattle.rules.proofs.LineLaws.{firstSize-le, firstSize-lf, firstSize-end, firstSize-some}
 use Rattle.rules.proofs.ReadingLaws.{withEntries, withEntries-reads, withEntries-halts, byteSum-append, tokenSum-append}
 use Rattle.rules.proofs.RecordLaws.{lineRecords-append, length-lineRecords, tokenRecords-append, length-tokenRecords}
-use Rattle.rules.proofs.LoopLaws.{ReadTo, lineAt, sizeAt, read-start, read-line, read-end, read-stuck, read-rest}
+use Rattle.rules.proofs.LoopLaws.{ReadTo, read-start, read-line, read-end, read-stuck, read-rest}
 use Rattle.rules.proofs.BoundLaws.{read-small}
 use Rattle.laws.specs.Puts.{putIf}
 use Rattle.laws.proofs.Puts.{length-putIf, putIf-append, putIf-none}

@@ -11,12 +11,12 @@ use lib.ListN.{length, getD, take, drop, length-append, length-drop, take-append
 use lib.Seq.{drop-drop, getD-take, getD-drop, take-append-le, drop-append-le, length-take-le}
 use Rattle.rules.specs.Lists.{same}
 use Rattle.rules.specs.Line.{State, initial}
-use Rattle.rules.specs.Reading.{linesOf, Entry, reads, readFrom, byteSum, tokenSum}
+use Rattle.rules.specs.Reading.{linesOf, Entry, reads, readFrom, byteSum, tokenSum, stateAt}
 use Rattle.rules.specs.Replies.{maxLevels}
 use Rattle.rules.specs.Records.{lineNeed, stateWords, lineRecord, lineRecords, endEntry, withEnd}
 use Rattle.rules.specs.StopRule.{Edit, edited, keptFrom, marksFrom, sameState, isStop}
 use Rattle.rules.proofs.LineLaws.{total}
-use Rattle.rules.proofs.ReadingLaws.{stateAt, parts}
+use Rattle.rules.proofs.ReadingLaws.{parts}
 use Rattle.rules.proofs.RecordLaws.{length-lineRecords, length-stateWords, record-at}
 use Rattle.rules.proofs.StateLaws.{same-true, same-refl}
 use Rattle.rules.proofs.StopLaws.{mark, Positive, read-positive, line-at-byte}

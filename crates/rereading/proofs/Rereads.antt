@@ -15,17 +15,17 @@ use Rattle.rules.specs.Lists.{same}
 use Rattle.rules.specs.Failure.{Failure, failureRecord}
 use Rattle.rules.specs.Line as rules-line
 use Rattle.rules.specs.Line.{Token, Halt, failed, overLimit, lineReads, lineHalts, readLine}
-use Rattle.rules.specs.Reading.{linesOf, Entry, entry, reads, halts, readFrom, byteSum, tokenSum}
+use Rattle.rules.specs.Reading.{linesOf, Entry, entry, reads, halts, readFrom, byteSum, tokenSum, stateAt, lineAt, sizeAt}
 use Rattle.rules.specs.Replies.{maxLevels}
 use Rattle.rules.specs.Records.{stateWords}
-use Rattle.rules.specs.StopRule.{edited, marksFrom, sameState, isStop}
+use Rattle.rules.specs.StopRule.{edited, marksFrom, sameState, isStop, fromByte}
 use Rattle.rules.proofs.ListLaws.{and-true}
 use Rattle.rules.proofs.LineLaws.{firstSize-le}
-use Rattle.rules.proofs.ReadingLaws.{stateAt, read-sizes, byteSum-append, tokenSum-append}
+use Rattle.rules.proofs.ReadingLaws.{read-sizes, byteSum-append, tokenSum-append}
 use Rattle.rules.proofs.StateLaws.{sameState-words}
 use Rattle.rules.proofs.StopLaws.{mark}
 use Rattle.rules.proofs.MendLaws.{no-stop, kept-size, kept-length}
-use Rattle.rules.proofs.LoopLaws.{ReadTo, lineAt, sizeAt, read-start, read-line, fromByte, RereadTo, reread-start, reread-test, reread-line, reread-stop, reread-end, reread-stuck}
+use Rattle.rules.proofs.LoopLaws.{ReadTo, read-start, read-line, RereadTo, reread-start, reread-test, reread-line, reread-stop, reread-end, reread-stuck}
 use Rattle.rules.proofs.BoundLaws.{GrownTo, read-grown}
 use Rattle.line.specs.declared.State.{State}
 use Rattle.line.specs.States.{stateOf}
@@ -91,7 +91,7 @@ module _ (rest lines : List ℕ) (base i m b kept : ℕ) (z₀ : rules-line.Stat
 
   -- on a faithful page its words decide as the stop rule does
   pub record Compared (o : Old rest lines base i m b kept z₀) (q r : ℕ) (z : rules-line.State) : Type 0 where
-    pub stop-is : isStop (marksFrom 0 (o .entries)) (o .ed) (mark (fromByte (o .text) (o .entries) (o .end) (o .reads-are) (o .ed) (o .begins) + q) z) ≡ stopsAt lines r b kept (base + q) z
+    pub stop-is : isStop (marksFrom 0 (o .entries)) (o .ed) (mark (fromByte (o .text) (o .entries) (o .ed) + q) z) ≡ stopsAt lines r b kept (base + q) z
     pub low : byteSum (take r (o .entries)) ≤ oldByte b kept (base + q)
     pub here : kept < base + q → (byteSum (take r (o .entries)) ≡ oldByte b kept (base + q)) × (r < length (o .entries))
 
@@ -117,7 +117,7 @@ module _ {rest lines : List ℕ} {base i m b kept : ℕ} {z₀ : rules-line.Stat
     compared-near : base + q ≤ kept → Compared rest lines base i m b kept z₀ o q r z
     compared-near x =
         record {
-          stop-is = no-stop maxLevels (o .entries) (o .end) (o .ed) (fromByte (o .text) (o .entries) (o .end) (o .reads-are) (o .ed) (o .begins) + q) z (omega (arith, o .base-is, o .kept-is))
+          stop-is = no-stop maxLevels (o .entries) (o .end) (o .ed) (fromByte (o .text) (o .entries) (o .ed) + q) z (omega (arith, o .base-is, o .kept-is))
               ∙ sym (stop-near lines r b kept (base + q) z x);
           low = subst (λ (n : ℕ). byteSum (take n (o .entries)) ≤ oldByte b kept (base + q)) (sym (hr .0 x)) (v .known o .low);
           here = λ y. absurd (omega arith);
@@ -125,9 +125,9 @@ module _ {rest lines : List ℕ} {base i m b kept : ℕ} {z₀ : rules-line.Stat
 
     compared-far : kept < base + q → Compared rest lines base i m b kept z₀ o q r z
     compared-far x =
-        let p : ℕ = fromByte (o .text) (o .entries) (o .end) (o .reads-are) (o .ed) (o .begins) + q in
-        let long : length rest ≡ length (edited (o .text) (o .ed)) - fromByte (o .text) (o .entries) (o .end) (o .reads-are) (o .ed) (o .begins) =
-        ap length (o .rest-is) ∙ length-drop (fromByte (o .text) (o .entries) (o .end) (o .reads-are) (o .ed) (o .begins)) (edited (o .text) (o .ed)) in
+        let p : ℕ = fromByte (o .text) (o .entries) (o .ed) + q in
+        let long : length rest ≡ length (edited (o .text) (o .ed)) - fromByte (o .text) (o .entries) (o .ed) =
+        ap length (o .rest-is) ∙ length-drop (fromByte (o .text) (o .entries) (o .ed)) (edited (o .text) (o .ed)) in
         let w = reread-test (o .text) (o .entries) (o .end) (o .reads-are) (o .ed) (o .begins) q (v .es) z (v .known o .again) (o .order) (o .inside)
         (omega (arith, o .base-is, o .kept-is)) (omega (arith, o .base-is)) in
         let start : byteSum (take (w .0) (o .entries)) ≡ oldByte b kept (base + q) = w .2 ∙ omega (arith, o .base-is, o .kept-is, o .b-is) in
@@ -161,7 +161,7 @@ module _ {rest lines : List ℕ} {base i m b kept : ℕ} {z₀ : rules-line.Stat
               let d = compared h r hr o in
               let g = reread-stop (o .text) (o .entries) (o .end) (o .reads-are) (o .ed) (o .begins) q (v .es) z (v .known o .again) (d .stop-is ∙ e) in
               let n = d .here far in
-              let kept-are = kept-from (o .text) (o .entries) (o .end) (o .reads-are) (o .ed) (fromByte (o .text) (o .entries) (o .end) (o .reads-are) (o .ed) (o .begins) + q) r (n .1) (n .0 ∙ omega (arith, o .base-is, o .kept-is, o .b-is)) in (
+              let kept-are = kept-from (o .text) (o .entries) (o .end) (o .reads-are) (o .ed) (fromByte (o .text) (o .entries) (o .ed) + q) r (n .1) (n .0 ∙ omega (arith, o .base-is, o .kept-is, o .b-is)) in (
                 g .0 ∙ (λ a. reads (take (sym (o .i-is) a) (o .entries) ++ (v .es ++ kept-are a)) (o .end)),
                 g .1 ∙ v .count,
                 n .0,
@@ -187,7 +187,7 @@ module _ {rest lines : List ℕ} {base i m b kept : ℕ} {z₀ : rules-line.Stat
           old = hm;
           known = λ o.
               let d = compared h r hr o in
-              let u : List ℕ = drop (fromByte (o .text) (o .entries) (o .end) (o .reads-are) (o .ed) (o .begins)) (edited (o .text) (o .ed)) in
+              let u : List ℕ = drop (fromByte (o .text) (o .entries) (o .ed)) (edited (o .text) (o .ed)) in
               let next = reread-line (o .text) (o .entries) (o .end) (o .reads-are) (o .ed) (o .begins) q (v .es) z (v .known o .again) ts (stateOf s′ widths′)
               (subst (λ (y : List ℕ). q < length y) (o .rest-is) h) (d .stop-is ∙ e) (ap (λ (y : List ℕ). readLine 16 z (lineAt y q)) (sym (o .rest-is)) ∙ l) in
               let size : sizeAt u q ≡ sizeAt rest q = ap (λ (y : List ℕ). sizeAt y q) (sym (o .rest-is)) in

@@ -10,13 +10,13 @@ use lib.ListN.{length, take, drop, length-append, length-drop, drop-of-length-le
 use lib.Seq.{sets, length-sets, take-append-add, take-nil, length-take-le}
 use Rattle.rules.specs.Line as rules-line
 use Rattle.rules.specs.Line.{Token, LineReply, lineReads, lineHalts, Halt, readLine}
-use Rattle.rules.specs.Reading.{Line, linesOf, content, Entry, entry, Reading, reads, halts, readFrom, linesRead, byteSum, tokenSum}
+use Rattle.rules.specs.Reading.{Line, linesOf, content, Entry, entry, Reading, reads, halts, readFrom, linesRead, byteSum, tokenSum, lineAt, sizeAt}
 use Rattle.rules.specs.Replies.{maxLevels}
 use Rattle.rules.specs.Records.{lineRecord, lineRecords, tokenWords, tokenRecords}
 use Rattle.rules.proofs.LineLaws.{lines-at, content-first, firstSize-le}
 use Rattle.rules.proofs.ReadingLaws.{withEntries, andThen, withEntries-reads, withEntries-halts, readFrom-append, step, read-sizes, tokenSum-append}
 use Rattle.rules.proofs.RecordLaws.{lineRecords-append, length-lineRecords, tokenRecords-append, length-tokenRecords}
-use Rattle.rules.proofs.LoopLaws.{ReadTo, lineAt, sizeAt, read-start, read-line}
+use Rattle.rules.proofs.LoopLaws.{ReadTo, read-start, read-line}
 use Rattle.rules.proofs.BoundLaws.{GrownTo, read-grown}
 use Rattle.laws.proofs.Sets.{sets-append}
 use Rattle.line.specs.declared.State.{State}

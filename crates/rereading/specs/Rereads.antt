@@ -10,8 +10,7 @@ use Rattle.rules.specs.Line.{State, initial, failed, overLimit}
 use Rattle.rules.specs.Reading.{linesOf, Entry, reads, halts, readFrom, byteSum, tokenSum}
 use Rattle.rules.specs.Replies.{maxLevels}
 use Rattle.rules.specs.Records.{lineNeed, lineRecords, withEnd}
-use Rattle.rules.specs.StopRule.{Edit, edited, keptFrom, rereadCount}
-use Rattle.rules.proofs.LoopLaws.{fromLine, fromByte, fromState}
+use Rattle.rules.specs.StopRule.{Edit, edited, keptFrom, rereadCount, fromLine, fromByte, fromState}
 use Rattle.reading.specs.Passes.{recordIn}
 use Rattle.rereading.specs.Words.{startWord, oldByte}
 use Rattle.rereading.specs.declared.Reread.{Reread}
@@ -32,10 +31,10 @@ pub record Old (rest lines : List ℕ) (base i m b kept : ℕ) (z : State) : Typ
   pub inside : ed .b ≤ length text
   pub b-is : b ≡ ed .b
   pub kept-is : kept ≡ keptFrom ed
-  pub i-is : i ≡ fromLine text entries end reads-are ed begins
-  pub base-is : base ≡ fromByte text entries end reads-are ed begins
-  pub state-is : z ≡ fromState text entries end reads-are ed begins
-  pub rest-is : rest ≡ drop (fromByte text entries end reads-are ed begins) (edited text ed)
+  pub i-is : i ≡ fromLine text ed
+  pub base-is : base ≡ fromByte text entries ed
+  pub state-is : z ≡ fromState text entries end ed
+  pub rest-is : rest ≡ drop (fromByte text entries ed) (edited text ed)
 
 -- the first c lines of a text read from the state z, in k tokens and q bytes
 pub record Lines (text : List ℕ) (z : State) (c k q : ℕ) : Type 0 where

@@ -16,12 +16,12 @@ use Rattle.rules.specs.Cut.{Cut, blank, comment, ends, token, fails, cut
 use Rattle.rules.specs.Line.{State, initial, Token, tokenAt, Cuts, cuts, stops, withToken, cutStep, cutsFrom, isSpace, isTab, indentWidth, afterBlanks, isBlankLine, isCompared, Levels, levels, unequal, tooDeep, dedents, opened, closed, compared, levelsOf, depthAfter, arrowAfter, LineReply, lineReads, lineHalts, withCuts, withLevels, readLine}
 use Rattle.rules.specs.Reading.{Line, linesOf, content, notLF, Entry, entry, Reading, reads, halts, readFrom, byteSum, tokenSum}
 use Rattle.rules.specs.Replies.{maxBytes, maxLevels, barge}
-use Rattle.rules.specs.Records.{widthWords, lineSize, lineNeed, tokenNeed, packed, stateWords, lineRecord, tokenWords, lineRecords, tokenRecords, endEntry, withEnd, Records, recordsOf, recorded, readLines}
+use Rattle.rules.specs.Records.{widthWords, lineSize, lineNeed, tokenNeed, packed, stateWords, lineRecord, tokenWords, lineRecords, tokenRecords, endEntry, withEnd, Records, recordsOf, recorded, readLines, Behind}
 use Rattle.rules.proofs.ListLaws.{if-by, and-true, run-true, trimEnd-le}
 use Rattle.rules.proofs.CutLaws.{TokenOk, CutOk, cut-ok, cuts-blank}
 use Rattle.rules.proofs.LineLaws.{total, total-lines, first-some, next-line}
 use Rattle.rules.proofs.ReadingLaws.{Step, step, read-sizes, byteSum-append, tokenSum-append}
-use Rattle.rules.proofs.RecordLaws.{Behind, behind}
+use Rattle.rules.proofs.RecordLaws.{behind}
 use Rattle.rules.proofs.LoopLaws.{ReadTo}
 
 -- The tokens of a line of n bytes.

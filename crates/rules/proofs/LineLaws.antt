@@ -11,7 +11,7 @@ use lib.Seq.{drop-drop, take-nil, drop-nil, getD-drop, split-at, take-at, length
 use borrow.Author.Tests.{eqb-true, eq-eqb, ne-eqb}
 use lib.Dec.{eqb}
 use Rattle.rules.specs.Lists.{if_then_else_, run}
-use Rattle.rules.specs.Reading.{Line, isLF, onto, linesOf, countLF, notLF, content}
+use Rattle.rules.specs.Reading.{Line, isLF, onto, linesOf, countLF, notLF, content, firstSize}
 use Rattle.rules.proofs.ListLaws.{if-by, run-true, run-false}
 
 -- the bytes of lines
@@ -228,11 +228,6 @@ only-line b [] no-lf = rw (ne-eqb b 10 (no-lf 0 (omega arith)))
 only-line b (c ∷ bs) no-lf = ap (next (isLF b) b) (only-line c bs (λ k hk. no-lf (suc k) (omega arith))) ∙ rw (ne-eqb b 10 (no-lf 0 (omega arith)))
 
 -- The line at an index of a text, as a loop meets it.
-
--- the size of the first line, with its LF
-pub firstSize : List ℕ → ℕ
-firstSize [] = 0
-firstSize (b ∷ t) = if isLF b then 1 else suc (firstSize t)
 
 pub linesOf-first : (b : ℕ) (t : List ℕ) → linesOf (b ∷ t) ≡ take (firstSize (b ∷ t)) (b ∷ t) ∷ linesOf (drop (firstSize (b ∷ t)) (b ∷ t))
 unfolding firstSize linesOf onto

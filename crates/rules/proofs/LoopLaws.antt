@@ -12,12 +12,12 @@ use lib.Dec.{ltb}
 use borrow.Author.Tests.{lt-ltb}
 use Rattle.rules.specs.Lists.{if_then_else_, any, run}
 use Rattle.rules.specs.Line.{State, initial, Token, Halt, LineReply, lineReads, lineHalts, readLine}
-use Rattle.rules.specs.Reading.{Line, linesOf, countLF, notLF, content, Entry, entry, Reading, reads, halts, readFrom, linesRead, byteSum, tokenSum}
+use Rattle.rules.specs.Reading.{Line, linesOf, countLF, notLF, content, Entry, entry, Reading, reads, halts, readFrom, linesRead, byteSum, tokenSum, firstSize, stateAt, lineAt, sizeAt}
 use Rattle.rules.specs.Replies.{maxLevels}
 use Rattle.rules.specs.Records.{lineSize, tokenSize, lineRecords, tokenRecords, endEntry, withEnd, Records, recordsOf}
-use Rattle.rules.specs.StopRule.{Edit, edited, keptFrom, Mark, marksFrom, sameState, sameMark, oldMark, isStop, rereadCount}
-use Rattle.rules.proofs.LineLaws.{total, total-lines, drop-lines, firstSize, firstSize-le, lines-at, content-first}
-use Rattle.rules.proofs.ReadingLaws.{withEntries, andThen, withEntries-reads, withEntries-halts, linesRead-withEntries, stateAt, readFrom-append, read-more, read-halts, Parts, parts, read-sizes, byteSum-append}
+use Rattle.rules.specs.StopRule.{Edit, edited, keptFrom, Mark, marksFrom, sameState, sameMark, oldMark, isStop, rereadCount, fromLine, fromByte, fromState}
+use Rattle.rules.proofs.LineLaws.{total, total-lines, drop-lines, firstSize-le, lines-at, content-first}
+use Rattle.rules.proofs.ReadingLaws.{withEntries, andThen, withEntries-reads, withEntries-halts, linesRead-withEntries, readFrom-append, read-more, read-halts, Parts, parts, read-sizes, byteSum-append}
 use Rattle.rules.proofs.StopLaws.{mark, Positive, read-positive, mark-at}
 use Rattle.rules.proofs.EditedLaws.{length-edited, old-start}
 use Rattle.rules.proofs.MendLaws.{keptLines, linesTo, linesTo-cons, fresh-parts, front-reads, front-size, stop-run, stop-count, count-from}
@@ -29,14 +29,6 @@ pub record ReadTo (limit : ℕ) (s : State) (t : List ℕ) (p : ℕ) (es : List 
   pub split : linesOf t ≡ lines ++ linesOf (drop p t)
   pub reads-are : readFrom limit s lines ≡ reads es z
   pub bytes : byteSum es ≡ p
-
--- the line at p, without its LF
-abbrev pub lineAt : List ℕ → ℕ → List ℕ
-lineAt t p = take (run notLF (drop p t)) (drop p t)
-
--- the size of the line at p, with its LF
-abbrev pub sizeAt : List ℕ → ℕ → ℕ
-sizeAt t p = firstSize (drop p t)
 
 module _ (limit : ℕ) (s : State) (t : List ℕ) where
   pub read-start : ReadTo limit s t 0 [] s
@@ -90,79 +82,79 @@ module _ (limit : ℕ) (s : State) (t : List ℕ) where
 
 -- Re-reading: the old text t with its reading, and the edited text from the first line to be read again on.
 module _ (t : List ℕ) (old : List Entry) (end : State) (h : readFrom maxLevels initial (linesOf t) ≡ reads old end) (ed : Edit) (ha : ed .a ≤ length t) where
-  -- that line's number, its start and the state before it
-  abbrev pub fromLine : ℕ
-  fromLine = countLF (take (ed .a) t)
+  -- where it begins
+  abbrev line : ℕ
+  line = fromLine t ed
 
-  abbrev pub fromByte : ℕ
-  fromByte = byteSum (take fromLine old)
+  abbrev byte : ℕ
+  byte = fromByte t old ed
 
-  abbrev pub fromState : State
-  fromState = stateAt old end fromLine
+  abbrev state : State
+  state = fromState t old end ed
 
   -- re-reading has come q bytes on, past lines es at none of which it stops, to the state z
   pub record RereadTo (q : ℕ) (es : List Entry) (z : State) : Type 0 where
-    pub to : ReadTo maxLevels fromState (drop fromByte (edited t ed)) q es z
-    pub counted : (ys : List Entry) → linesTo (marksFrom 0 old) ed fromByte (es ++ ys) ≡ length es + linesTo (marksFrom 0 old) ed (fromByte + q) ys
+    pub to : ReadTo maxLevels state (drop byte (edited t ed)) q es z
+    pub counted : (ys : List Entry) → linesTo (marksFrom 0 old) ed byte (es ++ ys) ≡ length es + linesTo (marksFrom 0 old) ed (byte + q) ys
 
-  pub reread-start : RereadTo 0 [] fromState
+  pub reread-start : RereadTo 0 [] state
   reread-start =
       record {
-        to = read-start maxLevels fromState (drop fromByte (edited t ed));
-        counted = λ ys. ap (λ (n : ℕ). linesTo (marksFrom 0 old) ed n ys) (sym (add-zero fromByte)) ∙ omega arith;
+        to = read-start maxLevels state (drop byte (edited t ed));
+        counted = λ ys. ap (λ (n : ℕ). linesTo (marksFrom 0 old) ed n ys) (sym (add-zero byte)) ∙ omega arith;
       }
 
   -- the whole reading, at a position of the re-reading
   module _ (q : ℕ) (es : List Entry) (z : State) (r : RereadTo q es z) where
     abbrev rest : Reading
-    rest = readFrom maxLevels z (linesOf (drop q (drop fromByte (edited t ed))))
+    rest = readFrom maxLevels z (linesOf (drop q (drop byte (edited t ed))))
 
-    whole-is : readFrom maxLevels initial (linesOf (edited t ed)) ≡ withEntries (take fromLine old) (withEntries es rest)
+    whole-is : readFrom maxLevels initial (linesOf (edited t ed)) ≡ withEntries (take line old) (withEntries es rest)
     whole-is =
         fresh-parts maxLevels t old end h ed ha
-        ∙ ap (withEntries (take fromLine old)) (read-rest maxLevels fromState (drop fromByte (edited t ed)) q es z (r .to))
+        ∙ ap (withEntries (take line old)) (read-rest maxLevels state (drop byte (edited t ed)) q es z (r .to))
 
-    count-is : rereadCount t ed ≡ length es + linesTo (marksFrom 0 old) ed (fromByte + q) (linesRead rest)
+    count-is : rereadCount t ed ≡ length es + linesTo (marksFrom 0 old) ed (byte + q) (linesRead rest)
     count-is =
         count-from t old end h ed ha
-        ∙ ap (λ (x : Reading). linesTo (marksFrom 0 old) ed fromByte (linesRead x)) (read-rest maxLevels fromState (drop fromByte (edited t ed)) q es z (r .to))
-        ∙ ap (linesTo (marksFrom 0 old) ed fromByte) (linesRead-withEntries es rest) ∙ r .counted (linesRead rest)
+        ∙ ap (λ (x : Reading). linesTo (marksFrom 0 old) ed byte (linesRead x)) (read-rest maxLevels state (drop byte (edited t ed)) q es z (r .to))
+        ∙ ap (linesTo (marksFrom 0 old) ed byte) (linesRead-withEntries es rest) ∙ r .counted (linesRead rest)
 
     -- it is a reading of the edited text from its start
-    pub reread-whole : ReadTo maxLevels initial (edited t ed) (fromByte + q) (take fromLine old ++ es) z
+    pub reread-whole : ReadTo maxLevels initial (edited t ed) (byte + q) (take line old ++ es) z
     reread-whole =
         let u : List ℕ = edited t ed in
-        let i : ℕ = fromLine in
-        let tail : drop i (linesOf u) ≡ r .to .lines ++ linesOf (drop (fromByte + q) u) =
+        let i : ℕ = line in
+        let tail : drop i (linesOf u) ≡ r .to .lines ++ linesOf (drop (byte + q) u) =
         drop-lines i u ∙ ap (λ (n : ℕ). linesOf (drop n u)) (front-size maxLevels t old end h ed ha)
-        ∙ r .to .split ∙ ap (λ (x : List ℕ). r .to .lines ++ linesOf x) (drop-drop q fromByte u) in
+        ∙ r .to .split ∙ ap (λ (x : List ℕ). r .to .lines ++ linesOf x) (drop-drop q byte u) in
         record {
           lines = take i (linesOf u) ++ r .to .lines;
           split = sym (take-append-drop i (linesOf u)) ∙ ap (λ (x : List Line). take i (linesOf u) ++ x) tail
-              ∙ sym (append-assoc (take i (linesOf u)) (r .to .lines) (linesOf (drop (fromByte + q) u)));
+              ∙ sym (append-assoc (take i (linesOf u)) (r .to .lines) (linesOf (drop (byte + q) u)));
           reads-are = readFrom-append maxLevels initial (take i (linesOf u)) (r .to .lines)
               ∙ ap (λ (x : Reading). andThen x (λ y. readFrom maxLevels y (r .to .lines))) (front-reads maxLevels t old end h ed ha)
               ∙ ap (withEntries (take i old)) (r .to .reads-are) ∙ withEntries-reads (take i old) es z;
-          bytes = byteSum-append (take i old) es ∙ ap (λ (n : ℕ). fromByte + n) (r .to .bytes);
+          bytes = byteSum-append (take i old) es ∙ ap (λ (n : ℕ). byte + n) (r .to .bytes);
         }
 
     -- beyond the inserted bytes and before the end, the stop rule compares with the state of the old line that starts at the same byte
-    pub reread-test : ed .a ≤ ed .b → ed .b ≤ length t → keptFrom ed < fromByte + q → fromByte + q < length (edited t ed)
-        → (i : ℕ) × (i < length old) × (byteSum (take i old) ≡ ed .b + (fromByte + q - keptFrom ed))
-        × (isStop (marksFrom 0 old) ed (mark (fromByte + q) z) ≡ sameState z (stateAt old end i))
+    pub reread-test : ed .a ≤ ed .b → ed .b ≤ length t → keptFrom ed < byte + q → byte + q < length (edited t ed)
+        → (i : ℕ) × (i < length old) × (byteSum (take i old) ≡ ed .b + (byte + q - keptFrom ed))
+        × (isStop (marksFrom 0 old) ed (mark (byte + q) z) ≡ sameState z (stateAt old end i))
     unfolding isStop byteSum
     reread-test hab hb hf hp =
-        let w : ReadTo maxLevels initial (edited t ed) (fromByte + q) (take fromLine old ++ es) z = reread-whole in
-        let s = old-start t ed hab hb (length (take fromLine old ++ es)) (fromByte + q)
-        (read-position maxLevels initial (edited t ed) (fromByte + q) (take fromLine old ++ es) z w) hf hp in
-        let start : byteSum (take (s .0) old) ≡ ed .b + (fromByte + q - keptFrom ed) = sym (parts maxLevels (s .0) initial (linesOf t) old end h .sizes) ∙ s .1 in
+        let w : ReadTo maxLevels initial (edited t ed) (byte + q) (take line old ++ es) z = reread-whole in
+        let s = old-start t ed hab hb (length (take line old ++ es)) (byte + q)
+        (read-position maxLevels initial (edited t ed) (byte + q) (take line old ++ es) z w) hf hp in
+        let start : byteSum (take (s .0) old) ≡ ed .b + (byte + q - keptFrom ed) = sym (parts maxLevels (s .0) initial (linesOf t) old end h .sizes) ∙ s .1 in
         let n : byteSum old ≡ length t = read-sizes maxLevels initial (linesOf t) old end h .1 ∙ total-lines t in
         let lt : s .0 < length old = inside old (s .0) (omega (arith, length-edited t ed ha)) in
-        let old-start-is : 0 + byteSum (take (s .0) old) ≡ ed .b + (fromByte + q - keptFrom ed) = zero-add (byteSum (take (s .0) old)) ∙ start in (
+        let old-start-is : 0 + byteSum (take (s .0) old) ≡ ed .b + (byte + q - keptFrom ed) = zero-add (byteSum (take (s .0) old)) ∙ start in (
           s .0,
           lt,
           start,
-          rw (lt-ltb (keptFrom ed) (fromByte + q) hf)
+          rw (lt-ltb (keptFrom ed) (byte + q) hf)
               (ap (λ (x : ℕ). any (sameMark (mark x z)) (marksFrom 0 old)) (sym old-start-is)
               ∙ mark-at 0 old end (s .0) z (read-positive maxLevels (linesOf t) t initial old end refl h) lt),
         )
@@ -173,56 +165,56 @@ module _ (t : List ℕ) (old : List Entry) (end : State) (h : readFrom maxLevels
         inside (e ∷ es) (suc i) x = suc-le-suc (inside es i (omega arith))
 
     -- the next line is read
-    pub reread-line : (ts : List Token) (z′ : State) → q < length (drop fromByte (edited t ed)) → isStop (marksFrom 0 old) ed (mark (fromByte + q) z) ≡ false
-        → readLine maxLevels z (lineAt (drop fromByte (edited t ed)) q) ≡ lineReads ts z′
-        → RereadTo (q + sizeAt (drop fromByte (edited t ed)) q) (es ++ (entry z (sizeAt (drop fromByte (edited t ed)) q) ts ∷ [])) z′
+    pub reread-line : (ts : List Token) (z′ : State) → q < length (drop byte (edited t ed)) → isStop (marksFrom 0 old) ed (mark (byte + q) z) ≡ false
+        → readLine maxLevels z (lineAt (drop byte (edited t ed)) q) ≡ lineReads ts z′
+        → RereadTo (q + sizeAt (drop byte (edited t ed)) q) (es ++ (entry z (sizeAt (drop byte (edited t ed)) q) ts ∷ [])) z′
     reread-line ts z′ hq no-stop e =
-        let u : List ℕ = drop fromByte (edited t ed) in
+        let u : List ℕ = drop byte (edited t ed) in
         let n : ℕ = sizeAt u q in
         record {
-          to = read-line maxLevels fromState u q es z (r .to) ts z′ hq e;
+          to = read-line maxLevels state u q es z (r .to) ts z′ hq e;
           counted = λ ys.
-              ap (linesTo (marksFrom 0 old) ed fromByte) (append-assoc es (entry z n ts ∷ []) ys) ∙ r .counted (entry z n ts ∷ ys)
-              ∙ ap (λ (x : ℕ). length es + x) (linesTo-cons (marksFrom 0 old) ed (fromByte + q) (entry z n ts) ys)
-              ∙ ap (λ (x : Bool). length es + (if x then 0 else suc (linesTo (marksFrom 0 old) ed (fromByte + q + n) ys))) no-stop
-              ∙ ap (λ (x : ℕ). length es + suc (linesTo (marksFrom 0 old) ed x ys)) (add-assoc fromByte q n)
+              ap (linesTo (marksFrom 0 old) ed byte) (append-assoc es (entry z n ts ∷ []) ys) ∙ r .counted (entry z n ts ∷ ys)
+              ∙ ap (λ (x : ℕ). length es + x) (linesTo-cons (marksFrom 0 old) ed (byte + q) (entry z n ts) ys)
+              ∙ ap (λ (x : Bool). length es + (if x then 0 else suc (linesTo (marksFrom 0 old) ed (byte + q + n) ys))) no-stop
+              ∙ ap (λ (x : ℕ). length es + suc (linesTo (marksFrom 0 old) ed x ys)) (add-assoc byte q n)
               ∙ omega (arith, length-append es (entry z n ts ∷ []));
         }
 
     -- it stops here: from here on the old lines
-    pub reread-stop : isStop (marksFrom 0 old) ed (mark (fromByte + q) z) ≡ true
-        → (readFrom maxLevels initial (linesOf (edited t ed)) ≡ reads (take fromLine old ++ (es ++ keptLines old ed (fromByte + q))) end) × (rereadCount t ed ≡ length es)
+    pub reread-stop : isStop (marksFrom 0 old) ed (mark (byte + q) z) ≡ true
+        → (readFrom maxLevels initial (linesOf (edited t ed)) ≡ reads (take line old ++ (es ++ keptLines old ed (byte + q))) end) × (rereadCount t ed ≡ length es)
     reread-stop x =
-        let d : drop q (drop fromByte (edited t ed)) ≡ drop (fromByte + q) (edited t ed) = drop-drop q fromByte (edited t ed) in
-        let k : rest ≡ reads (keptLines old ed (fromByte + q)) end =
-        ap (λ (y : List ℕ). readFrom maxLevels z (linesOf y)) d ∙ stop-run maxLevels t old end h ed ha (fromByte + q) z x in (
-          whole-is ∙ ap (λ (y : Reading). withEntries (take fromLine old) (withEntries es y)) k
-              ∙ ap (withEntries (take fromLine old)) (withEntries-reads es (keptLines old ed (fromByte + q)) end)
-              ∙ withEntries-reads (take fromLine old) (es ++ keptLines old ed (fromByte + q)) end,
+        let d : drop q (drop byte (edited t ed)) ≡ drop (byte + q) (edited t ed) = drop-drop q byte (edited t ed) in
+        let k : rest ≡ reads (keptLines old ed (byte + q)) end =
+        ap (λ (y : List ℕ). readFrom maxLevels z (linesOf y)) d ∙ stop-run maxLevels t old end h ed ha (byte + q) z x in (
+          whole-is ∙ ap (λ (y : Reading). withEntries (take line old) (withEntries es y)) k
+              ∙ ap (withEntries (take line old)) (withEntries-reads es (keptLines old ed (byte + q)) end)
+              ∙ withEntries-reads (take line old) (es ++ keptLines old ed (byte + q)) end,
           count-is
-              ∙ ap (λ (n : ℕ). length es + n) (stop-count maxLevels old end ed (fromByte + q) z (linesOf (drop q (drop fromByte (edited t ed)))) x)
+              ∙ ap (λ (n : ℕ). length es + n) (stop-count maxLevels old end ed (byte + q) z (linesOf (drop q (drop byte (edited t ed)))) x)
               ∙ add-zero (length es),
         )
 
     -- it comes to the end
-    pub reread-end : length (drop fromByte (edited t ed)) ≤ q
-        → (readFrom maxLevels initial (linesOf (edited t ed)) ≡ reads (take fromLine old ++ es) z) × (rereadCount t ed ≡ length es)
+    pub reread-end : length (drop byte (edited t ed)) ≤ q
+        → (readFrom maxLevels initial (linesOf (edited t ed)) ≡ reads (take line old ++ es) z) × (rereadCount t ed ≡ length es)
     unfolding readFrom linesOf run marksFrom linesRead
     reread-end x =
-        let k : rest ≡ reads [] z = ap (λ (y : List ℕ). readFrom maxLevels z (linesOf y)) (drop-of-length-le (drop fromByte (edited t ed)) x) in (
-          whole-is ∙ ap (λ (y : Reading). withEntries (take fromLine old) (withEntries es y)) k
-              ∙ ap (withEntries (take fromLine old)) (withEntries-reads es [] z ∙ ap (λ (y : List Entry). reads y z) (append-nil es))
-              ∙ withEntries-reads (take fromLine old) es z,
-          count-is ∙ ap (λ (y : Reading). length es + linesTo (marksFrom 0 old) ed (fromByte + q) (linesRead y)) k ∙ add-zero (length es),
+        let k : rest ≡ reads [] z = ap (λ (y : List ℕ). readFrom maxLevels z (linesOf y)) (drop-of-length-le (drop byte (edited t ed)) x) in (
+          whole-is ∙ ap (λ (y : Reading). withEntries (take line old) (withEntries es y)) k
+              ∙ ap (withEntries (take line old)) (withEntries-reads es [] z ∙ ap (λ (y : List Entry). reads y z) (append-nil es))
+              ∙ withEntries-reads (take line old) es z,
+          count-is ∙ ap (λ (y : Reading). length es + linesTo (marksFrom 0 old) ed (byte + q) (linesRead y)) k ∙ add-zero (length es),
         )
 
     -- the next line does not read
-    pub reread-stuck : (x : Halt) → q < length (drop fromByte (edited t ed)) → readLine maxLevels z (lineAt (drop fromByte (edited t ed)) q) ≡ lineHalts x
-        → readFrom maxLevels initial (linesOf (edited t ed)) ≡ halts (take fromLine old ++ es) x
+    pub reread-stuck : (x : Halt) → q < length (drop byte (edited t ed)) → readLine maxLevels z (lineAt (drop byte (edited t ed)) q) ≡ lineHalts x
+        → readFrom maxLevels initial (linesOf (edited t ed)) ≡ halts (take line old ++ es) x
     reread-stuck x hq e =
         fresh-parts maxLevels t old end h ed ha
-        ∙ ap (withEntries (take fromLine old)) (read-stuck maxLevels fromState (drop fromByte (edited t ed)) q es z (r .to) x hq e)
-        ∙ withEntries-halts (take fromLine old) es x
+        ∙ ap (withEntries (take line old)) (read-stuck maxLevels state (drop byte (edited t ed)) q es z (r .to) x hq e)
+        ∙ withEntries-halts (take line old) es x
 
 -- The records at a stop: those of the old lines before line i, those of the new lines, and those of the old lines from j on, moved.
 

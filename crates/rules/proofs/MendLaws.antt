@@ -12,7 +12,7 @@ use lib.Dec.{ltb}
 use borrow.Author.Tests.{ltb-true, le-ltb}
 use Rattle.rules.specs.Lists.{if_then_else_, any, run}
 use Rattle.rules.specs.Line.{State, initial, Halt, LineReply, lineReads, lineHalts, readLine}
-use Rattle.rules.specs.Reading.{Line, linesOf, countLF, content, Entry, entry, Reading, reads, halts, withEntry, lineThen, readFrom, linesRead, byteSum}
+use Rattle.rules.specs.Reading.{Line, linesOf, countLF, content, Entry, entry, Reading, reads, halts, withEntry, lineThen, readFrom, linesRead, byteSum, stateAt}
 use Rattle.rules.specs.Replies.{maxLevels, barge}
 use Rattle.rules.specs.Records.{recordedBy, readLines}
 use Rattle.rules.specs.Page.{Sizes}
@@ -20,7 +20,7 @@ use Rattle.rules.specs.StopRule.{Edit, edited, keptFrom, Mark, marksFrom
 use Rattle.rules.specs.Edit.{gate, stored, through, outcome}
 use Rattle.rules.proofs.ListLaws.{and-true, run-cons}
 use Rattle.rules.proofs.LineLaws.{total, total-lines, next-line, drop-lines, total-take-lines, lfs-lines}
-use Rattle.rules.proofs.ReadingLaws.{withEntries, andThen, linesRead-withEntries, stateAt, readFrom-append, Parts, parts, read-sizes}
+use Rattle.rules.proofs.ReadingLaws.{withEntries, andThen, linesRead-withEntries, readFrom-append, Parts, parts, read-sizes}
 use Rattle.rules.proofs.StopLaws.{mark, marks-append, length-marks, mark-find, Positive, read-positive, lineAtByte, line-at-byte}
 use Rattle.rules.proofs.EditedLaws.{drop-edited, same-front}
 

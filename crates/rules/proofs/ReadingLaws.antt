@@ -6,7 +6,7 @@ use mathlib.Core.List.{List, [], _∷_, _++_, append-nil}
 use native.Mathlib.Omega.{arith}
 use lib.ListN.{length, take, drop}
 use Rattle.rules.specs.Line.{State, Token, Halt, LineReply, lineReads, lineHalts, readLine}
-use Rattle.rules.specs.Reading.{Line, linesOf, content, Entry, entry, Reading, reads, halts, withEntry, lineThen, readFrom, linesRead, byteSum, tokenSum}
+use Rattle.rules.specs.Reading.{Line, linesOf, content, Entry, entry, Reading, reads, halts, withEntry, lineThen, readFrom, linesRead, byteSum, tokenSum, stateAt}
 use Rattle.rules.proofs.LineLaws.{total, lines-append}
 
 -- Lines after lines.
@@ -48,12 +48,6 @@ pub withEntries-halts : (es fs : List Entry) (h : Halt) → withEntries es (halt
 unfolding withEntry
 withEntries-halts [] fs h = refl
 withEntries-halts (e ∷ es) fs h = ap (withEntry e) (withEntries-halts es fs h)
-
--- the state before line i; past the last, the state at the end
-abbrev pub stateAt : List Entry → State → ℕ → State
-stateAt [] s i = s
-stateAt (e ∷ es) s zero = e .before
-stateAt (e ∷ es) s (suc i) = stateAt es s i
 
 module _ (limit : ℕ) where
   -- lines after lines are read from the state reached

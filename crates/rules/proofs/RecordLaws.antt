@@ -8,11 +8,11 @@ use native.Mathlib.Nat.{add-zero, zero-add, add-assoc}
 use lib.ListN.{length, take, drop, replicate, length-append, take-append-drop}
 use lib.Seq.{drop-at, take-at, take-append-le, length-take-le}
 use Rattle.rules.specs.Line.{State, initial, Token}
-use Rattle.rules.specs.Reading.{linesOf, Entry, Reading, reads, halts, readFrom, byteSum, tokenSum}
+use Rattle.rules.specs.Reading.{linesOf, Entry, Reading, reads, halts, readFrom, byteSum, tokenSum, stateAt}
 use Rattle.rules.specs.Replies.{maxLevels, barge}
-use Rattle.rules.specs.Records.{widthWords, lineSize, tokenSize, lineNeed, tokenNeed, packed, stateWords, lineRecord, tokenWords, lineRecords, tokenRecords, endEntry, withEnd, header, Records, recordsOf, haltRefusal, FreshReading, recorded, unread, recordedBy, readLines}
+use Rattle.rules.specs.Records.{widthWords, lineSize, tokenSize, lineNeed, tokenNeed, packed, stateWords, lineRecord, tokenWords, lineRecords, tokenRecords, endEntry, withEnd, header, Records, recordsOf, haltRefusal, FreshReading, recorded, unread, recordedBy, readLines, Behind}
 use Rattle.rules.proofs.LineLaws.{total, total-lines}
-use Rattle.rules.proofs.ReadingLaws.{stateAt, read-sizes, tokenSum-append, byteSum-append}
+use Rattle.rules.proofs.ReadingLaws.{read-sizes, tokenSum-append, byteSum-append}
 
 -- words of a state
 abbrev pub stateSize : ℕ
@@ -111,12 +111,6 @@ tokenRecords-drop p l j es h =
 -- A fresh reading.
 
 -- the records of a text that reads come from its lines
-pub record Behind (t : List ℕ) (r : Records) : Type 0 where
-  pub entries : List Entry
-  pub end : State
-  pub reads-are : readFrom maxLevels initial (linesOf t) ≡ reads entries end
-  pub records-are : r ≡ recordsOf entries end
-
 pub behind : (t : List ℕ) (r : Records) → readLines barge t ≡ recorded r → Behind t r
 unfolding readLines recordedBy
 behind t r h = go (readFrom maxLevels initial (linesOf t)) refl h

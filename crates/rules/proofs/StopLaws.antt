@@ -12,11 +12,11 @@ use lib.Dec.{ltb, eqb}
 use borrow.Author.Tests.{ltb-true, lt-ltb, le-ltb, eqb-true, eq-eqb, ne-eqb}
 use Rattle.rules.specs.Lists.{any, run}
 use Rattle.rules.specs.Line.{State, initial, readLine}
-use Rattle.rules.specs.Reading.{Line, linesOf, content, Entry, entry, Reading, reads, readFrom, byteSum}
+use Rattle.rules.specs.Reading.{Line, linesOf, content, Entry, entry, Reading, reads, readFrom, byteSum, stateAt}
 use Rattle.rules.specs.StopRule.{Edit, edited, keptFrom, Mark, marksFrom, sameState, sameMark, oldMark, isStop}
 use Rattle.rules.proofs.ListLaws.{and-true, run-true, run-false}
 use Rattle.rules.proofs.LineLaws.{total, total-lines, next-line, drop-lines, start-lf, lf-start, first-some}
-use Rattle.rules.proofs.ReadingLaws.{stateAt, Step, step, Parts, parts, read-sizes}
+use Rattle.rules.proofs.ReadingLaws.{Step, step, Parts, parts, read-sizes}
 use Rattle.rules.proofs.StateLaws.{sameState-true, sameState-refl}
 
 abbrev pub mark : ℕ → State → Mark

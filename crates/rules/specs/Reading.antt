@@ -5,7 +5,7 @@ use Prim.Native.Char.{code}
 use mathlib.Core.Bool.{Bool, true, false, not}
 use mathlib.Core.List.{List, [], _∷_, _++_}
 use lib.Dec.{eqb}
-use lib.ListN.{length, take}
+use lib.ListN.{length, take, drop}
 use Rattle.rules.specs.Lists.{if_then_else_, run}
 use Rattle.rules.specs.Line.{State, initial, Token, Halt, LineReply, lineReads, lineHalts, readLine, lineRules}
 
@@ -39,6 +39,18 @@ notLF b = not (isLF b)
 -- a line without its LF
 unfoldable pub content : Line → List ℕ
 content l = take (run notLF l) l
+
+-- the size of the first line, with its LF
+unfoldable pub firstSize : List ℕ → ℕ
+firstSize [] = 0
+firstSize (b ∷ t) = if isLF b then 1 else suc (firstSize t)
+
+-- the line at byte p, without its LF, and its size with it
+abbrev pub lineAt : List ℕ → (p : ℕ) → List ℕ
+lineAt t p = take (run notLF (drop p t)) (drop p t)
+
+abbrev pub sizeAt : List ℕ → (p : ℕ) → ℕ
+sizeAt t p = firstSize (drop p t)
 
 -- The reading. What a line gives does not depend on where it stands; its records place it.
 
@@ -75,6 +87,12 @@ unfoldable pub linesRead : Reading → List Entry
 linesRead (reads es s) = es
 linesRead (halts es h) = es
 
+-- the state before line i; past the last, the state at the end
+abbrev pub stateAt : List Entry → (end : State) → (i : ℕ) → State
+stateAt [] s i = s
+stateAt (e ∷ es) s zero = e .before
+stateAt (e ∷ es) s (suc i) = stateAt es s i
+
 -- bytes and tokens of lines
 unfoldable pub byteSum : List Entry → ℕ
 byteSum [] = 0
@@ -86,5 +104,5 @@ tokenSum (e ∷ es) = length (e .tokens) + tokenSum es
 
 -- opens the definitions above, and those of the modules below, where a proof says `unfolding readingRules`
 unfoldable pub readingRules : Unit {0}
-unfolding onto linesOf countLF notLF content withEntry lineThen readFrom linesRead byteSum tokenSum lineRules
+unfolding onto linesOf countLF notLF content firstSize withEntry lineThen readFrom linesRead byteSum tokenSum lineRules
 readingRules = tt

@@ -1,6 +1,7 @@
 -- The records of a text, and its fresh reading.
 -- Assumes nothing.
 use Prim.Native.Nat.{ℕ, zero, suc, _+_, _*_}
+use mathlib.Core.Path.{_≡_}
 use mathlib.Core.Bool.{Bool, true, false}
 use mathlib.Core.List.{List, [], _∷_, _++_}
 use mathlib.Core.Option.{Option}
@@ -130,6 +131,13 @@ freshReadingBy lim t =
 
 unfoldable pub freshReading : List ℕ → FreshReading
 freshReading t = freshReadingBy barge t
+
+-- the lines that the records of a text come from
+pub record Behind (t : List ℕ) (r : Records) : Type 0 where
+  pub entries : List Entry
+  pub end : State
+  pub reads-are : readFrom maxLevels initial (linesOf t) ≡ reads entries end
+  pub records-are : r ≡ recordsOf entries end
 
 -- opens the definitions above, and those of the modules below, where a proof says `unfolding recordRules`
 unfoldable pub recordRules : Unit {0}

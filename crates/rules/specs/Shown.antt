@@ -124,13 +124,13 @@ suffix-kinds = refl
 
 -- Classes.
 
--- the class of each byte, as a table
-pub classTable : List ℕ
-classTable = map classOf allBytes
+-- the class of each byte
+pub classNumbers : List ℕ
+classNumbers = map classOf allBytes
 
 -- how many bytes each class has: 3 blanks, `#`, 52 letters, 10 digits, `"`, 22 sign bytes, 167 others
-pub class-sizes : map (λ c. countOf (eqb c) classTable) (from 7 0) ≡ 3 ∷ 1 ∷ 52 ∷ 10 ∷ 1 ∷ 22 ∷ 167 ∷ []
-unfolding classTable allBytes from countOf tableRules
+pub class-sizes : map (λ c. countOf (eqb c) classNumbers) (from 7 0) ≡ 3 ∷ 1 ∷ 52 ∷ 10 ∷ 1 ∷ 22 ∷ 167 ∷ []
+unfolding classNumbers allBytes from countOf tableRules
 class-sizes = refl
 
 -- UTF-8.

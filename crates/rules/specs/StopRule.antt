@@ -7,7 +7,7 @@ use lib.Dec.{ltb, eqb}
 use lib.ListN.{length, take, drop}
 use Rattle.rules.specs.Lists.{any, run, same, listRules}
 use Rattle.rules.specs.Line.{State, initial}
-use Rattle.rules.specs.Reading.{linesOf, countLF, Entry, readFrom, linesRead, readingRules}
+use Rattle.rules.specs.Reading.{linesOf, countLF, Entry, readFrom, linesRead, stateAt, byteSum, readingRules}
 use Rattle.rules.specs.Replies.{maxLevels}
 
 -- bytes a..b become w
@@ -23,6 +23,17 @@ edited t ed = take (ed .a) t ++ (ed .w ++ drop (ed .b) t)
 -- a + |w|: where the kept tail begins in the edited text
 abbrev pub keptFrom : Edit → ℕ
 keptFrom ed = ed .a + length (ed .w)
+
+-- re-reading begins at the line after as many LFs as the first a bytes hold; the lines of t are `old`, with this state at the end: that line's
+-- number, its start and the state before it
+abbrev pub fromLine : (t : List ℕ) → Edit → ℕ
+fromLine t ed = countLF (take (ed .a) t)
+
+abbrev pub fromByte : (t : List ℕ) (old : List Entry) → Edit → ℕ
+fromByte t old ed = byteSum (take (fromLine t ed) old)
+
+abbrev pub fromState : (t : List ℕ) (old : List Entry) (end : State) → Edit → State
+fromState t old end ed = stateAt old end (fromLine t ed)
 
 -- where a line starts, with the state before it
 pub record Mark : Type 0 where
@@ -52,9 +63,9 @@ oldMark ed m = record { start = ed .b + (m .start - keptFrom ed); state = m .sta
 unfoldable pub isStop : (old : List Mark) → Edit → Mark → Bool
 isStop old ed m = ltb (keptFrom ed) (m .start) && any (sameMark (oldMark ed m)) old
 
--- the lines of the edited text from the line after as many LFs as the first a bytes hold to the first stop, otherwise to the end
+-- the lines of the edited text from where re-reading begins to the first stop, otherwise to the end
 unfoldable pub rereadCount : List ℕ → Edit → ℕ
-rereadCount t ed = run (λ m. not (isStop (marksOf t) ed m)) (drop (countLF (take (ed .a) t)) (marksOf (edited t ed)))
+rereadCount t ed = run (λ m. not (isStop (marksOf t) ed m)) (drop (fromLine t ed) (marksOf (edited t ed)))
 
 -- opens the definitions above, and those of the modules below, where a proof says `unfolding stopRules`
 unfoldable pub stopRules : Unit {0}

@@ -26,8 +26,8 @@ tokenTail u lines tokens k p =
     ++ movedTokens (p .old) (p .new) (p .j + 1) (p .i + p .lines + 1) tokens (p .from) (k - p .from)
 
 -- all the words, those before the first written one included
-abbrev pub lineWords : (u lines : List ℕ) (m : ℕ) → Plan → List ℕ
-lineWords u lines m p = take (21 * p .i) lines ++ lineTail u lines m p
+abbrev pub writtenLines : (u lines : List ℕ) (m : ℕ) → Plan → List ℕ
+writtenLines u lines m p = take (21 * p .i) lines ++ lineTail u lines m p
 
-abbrev pub tokenWords : (u lines tokens : List ℕ) (k : ℕ) → Plan → List ℕ
-tokenWords u lines tokens k p = take (5 * p .first) tokens ++ tokenTail u lines tokens k p
+abbrev pub writtenTokens : (u lines tokens : List ℕ) (k : ℕ) → Plan → List ℕ
+writtenTokens u lines tokens k p = take (5 * p .first) tokens ++ tokenTail u lines tokens k p

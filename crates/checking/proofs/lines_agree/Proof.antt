@@ -8,9 +8,8 @@ use native.Mathlib.Omega.{arith}
 use borrow.Author.Needs.{needs}
 use borrow.Author.Tests.{not-true, not-false}
 use lib.ListN.{length, take, drop, length-drop}
-use Rattle.rules.specs.Reading.{notLF}
+use Rattle.rules.specs.Reading.{notLF, lineAt, sizeAt}
 use Rattle.rules.proofs.ListLaws.{run-le}
-use Rattle.rules.proofs.LoopLaws.{lineAt, sizeAt}
 use Rattle.line.specs.declared.State.{State}
 use Rattle.reading.proofs.Lines.{small, size-inside, line-inside, next-start, slice-is}
 use Rattle.checking.specs.declared.SameLine.the-variants.{Agrees}

@@ -8,11 +8,10 @@ use lib.ListN.{length, take, drop, length-drop, length-take}
 use Rattle.rules.specs.Lists.{run}
 use Rattle.rules.specs.Line as rules-line
 use Rattle.rules.specs.Line.{LineReply, lineHalts, failed, readLine}
-use Rattle.rules.specs.Reading.{notLF}
+use Rattle.rules.specs.Reading.{notLF, lineAt}
 use Rattle.rules.specs.Records.{lineRecord, tokenWords}
 use Rattle.rules.proofs.ListLaws.{run-le}
 use Rattle.rules.proofs.FailureLaws.{failure-inside}
-use Rattle.rules.proofs.LoopLaws.{lineAt}
 use Rattle.laws.specs.Puts.{putIf}
 use Rattle.cut.specs.Cuts.{failureOf}
 use Rattle.line.specs.States.{stateOf}

@@ -8,8 +8,7 @@ use native.Mathlib.Omega.{arith}
 use borrow.Author.Needs.{needs}
 use lib.ListN.{length}
 use Rattle.rules.specs.Line.{initial, readLine}
-use Rattle.rules.specs.Reading.{linesOf, readFrom}
-use Rattle.rules.proofs.LoopLaws.{lineAt, sizeAt}
+use Rattle.rules.specs.Reading.{linesOf, readFrom, lineAt, sizeAt}
 use Rattle.line.specs.declared.State.{State}
 use Rattle.line.specs.States.{stateOf}
 use Rattle.reading.specs.Passes.{RoomIn}

@@ -9,7 +9,7 @@ use lib.ListN.{length, drop, length-drop}
 use lib.Seq.{length-take-le}
 use borrow.Author.Needs.{needs}
 use Rattle.rules.specs.Line.{readLine}
-use Rattle.rules.proofs.LoopLaws.{lineAt, sizeAt}
+use Rattle.rules.specs.Reading.{lineAt, sizeAt}
 use Rattle.rules.proofs.LineLaws.{firstSize-some}
 use Rattle.line.specs.States.{stateOf}
 use Rattle.reading.specs.declared.Step.{Step}

@@ -7,7 +7,7 @@ use native.Mathlib.Omega.{arith}
 use lib.ListN.{length}
 use borrow.Author.Needs.{needs}
 use Rattle.rules.specs.Line.{LineReply, readLine}
-use Rattle.rules.proofs.LoopLaws.{lineAt, sizeAt}
+use Rattle.rules.specs.Reading.{lineAt, sizeAt}
 use Rattle.line.specs.States.{stateOf}
 use Rattle.line.specs.LineCuts.{RoomIn}
 use Rattle.reading.specs.declared.Step.{Step}
