@@ -23,3 +23,4 @@ pub mod ByteValue
 pub mod Scan
 pub mod Cases
 pub mod Shown
+pub mod Samples
