@@ -72,6 +72,10 @@ partWords p = p .buffer ∷ p .start ∷ p .size ∷ []
 unfoldable pub tokenTextReply : Page → (i names : ℕ) → Reply
 tokenTextReply pg i names = unless (firstOf (partTests pg i names)) numbered (accepted (partWords (partOf pg i)))
 
+-- the number that this reply begins with: 0, or the refusal's
+unfoldable pub tokenTextNumber : Page → (i names : ℕ) → ℕ
+tokenTextNumber pg i names = getD (tokenTextReply pg i names) 0 0
+
 -- the bytes of a part of the text or of the names
 unfoldable pub partBytes : (text names : List ℕ) → Part → List ℕ
 partBytes text names p = take (p .size) (drop (p .start) (if eqb (p .buffer) textBuffer then text else names))

@@ -11,8 +11,8 @@ use types.Run.{OneOf}
 use denote.Enum.Declared.{tagOf}
 use Rattle.rules.specs.Replies.{Refusal, Reply, numbered, accepted, firstOf, unless}
 use Rattle.rules.specs.Page.{Page}
-use Rattle.rules.specs.TokenText.{Part, partBy, partTests, partOf, partWords, partBytes, tokenTextReply, tokenText}
-use Rattle.tokens.specs.Answers.{refusalOf, Token, IfGranted}
+use Rattle.rules.specs.TokenText.{Part, partBy, partTests, partOf, partWords, partBytes, tokenTextReply, tokenTextNumber, tokenText}
+use Rattle.tokens.specs.Answers.{refusalOf, numberOf, Token, IfGranted}
 use Rattle.tokens.specs.Places.{Place, after, partPlace, handedPart}
 use Rattle.tokens.specs.declared.Asked.{Asked}
 use Rattle.tokens.specs.declared.Asked.the-variants.{Granted, Unfit, Outside, ShortNames}
@@ -47,6 +47,14 @@ module _ (pg : Page) (i : ℕ) where
       pub accepts : (r : Reply) → r ≡ accepted (partWords (partBy kind position size)) → r ≡ tokenTextReply pg i names
       unfolding tokenTextReply unless
       accepts r f = f ∙ rw (part-is, passed)
+
+  -- the number by which a refusal is told; 0 where there is none
+  pub number-told : (names : ℕ) (a : Asked) → Came pg i names a → (r : ℕ) → r ≡ numberOf a → r ≡ tokenTextNumber pg i names
+  unfolding tokenTextNumber tokenTextReply unless numbered
+  number-told names (Granted kind position size) came r e = e ∙ rw (← came .0)
+  number-told names Unfit came r e = e ∙ rw (← came .0)
+  number-told names Outside came r e = e ∙ rw (← came .0)
+  number-told names ShortNames came r e = e ∙ rw (← came .0)
 
   module _ (names : List ℕ) (text-at names-at : Place) where
     -- content and place of what is handed back

@@ -30,6 +30,13 @@ refusalOf an-asked.Unfit = some unfit
 refusalOf an-asked.Outside = some outside
 refusalOf an-asked.ShortNames = some (short namesBuffer namesSize)
 
+-- its number; 0 where there is none
+abbrev pub numberOf : asked.Asked → ℕ
+numberOf (an-asked.Granted kind position size) = 0
+numberOf an-asked.Unfit = 7
+numberOf an-asked.Outside = 6
+numberOf an-asked.ShortNames = 5
+
 -- what is known of token i where no test refuses: these are the words of its record, and its text lies within the buffers
 pub record Token (pg : Page) (i names kind position size : ℕ) : Type 0 where
   pub kind-is : kind ≡ tokenWord pg i 0

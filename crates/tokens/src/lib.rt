@@ -7,10 +7,10 @@ ghost use lib.ListN.{length};
 ghost use denote.Ref.{ptr};
 ghost use Rattle.rules.specs.Kinds.{isKind};
 ghost use Rattle.rules.specs.Replies.{accepted, firstOf};
-ghost use Rattle.rules.specs.TokenText.{namesSize, partBy, partTests, partWords, partBytes, tokenTextReply, tokenText};
+ghost use Rattle.rules.specs.TokenText.{namesSize, partBy, partTests, partWords, partBytes, tokenTextReply, tokenTextNumber, tokenText};
 ghost use Rattle.rules.specs.Walk.{walkReply};
 ghost use Rattle.header.specs.Pages.{page};
-ghost use Rattle.tokens.specs.Answers.{partNumbers, refusalOf, IfGranted, stepNumbers};
+ghost use Rattle.tokens.specs.Answers.{partNumbers, refusalOf, numberOf, IfGranted, stepNumbers};
 ghost use Rattle.tokens.specs.Places.{partPlace, handedPart};
 
 // The kinds whose text stands in the names.
@@ -153,7 +153,19 @@ pub fn token_part(
     }
 }
 
-// The text of token i of a page; the empty one where `token_part` refuses.
+// The number of the refusal that the tests come to; 0 where there is none.
+fn number_of(asked: Asked) -> u32
+    ensures { λ r. ⌜ r ≡ numberOf asked ⌝ }
+{
+    match asked {
+        Asked::Granted(_, _, _) => 0,
+        Asked::Unfit => 7,
+        Asked::Outside => 6,
+        Asked::ShortNames => 5,
+    }
+}
+
+// The text of token i of a page, with the number 0; the empty one where `token_part` refuses, with the refusal's number.
 pub fn token_text<'a>(
     n: u32,
     m: u32,
@@ -163,11 +175,15 @@ pub fn token_text<'a>(
     tokens: &[u32],
     i: usize,
     names: &'a [u8],
+    number: &mut u32,
 ) -> &'a [u8]
     ensures { λ r. ⌜ now r ≡ tokenText (page n m k (now (text .entry)) (now (lines .entry)) (now (tokens .entry))) i (now (names .entry)) ⌝ }
     ensures { λ r. ⌜ ptr r ≡ partPlace (ptr (text .entry)) (ptr (names .entry)) (handedPart (page n m k (now (text .entry)) (now (lines .entry)) (now (tokens .entry))) i (length (now (names .entry)))) ⌝ }
+    ensures { λ _. ⌜ now (number .exit) ≡ tokenTextNumber (page n m k (now (text .entry)) (now (lines .entry)) (now (tokens .entry))) i (length (now (names .entry))) ⌝ }
 {
-    match ask(n, m, k, text, lines, tokens, i, names.len()) {
+    let asked = ask(n, m, k, text, lines, tokens, i, names.len());
+    *number = number_of(asked);
+    match asked {
         Asked::Granted(kind, position, size) => text_by_kind(kind, position, size, text, names),
         _ => &text[0..0],
     }
