@@ -2,13 +2,16 @@
 -- Assumes nothing.
 use Prim.Native.Nat.{ℕ, _+_, _≤_, _<_}
 use mathlib.Core.Path.{_≡_}
+use mathlib.Core.Bool.{Bool}
 use mathlib.Core.List.{List}
-use lib.ListN.{length, getD, drop}
+use lib.Dec.{ltb}
+use lib.ListN.{length, take, drop}
+use Rattle.rules.specs.Lists.{every}
 use Rattle.rules.specs.Utf8.{wellFormedPrefix}
 
 -- the n bytes from `from` on are ASCII
-abbrev pub Ascii : List ℕ → (from n : ℕ) → Type 0
-Ascii t from n = (k : ℕ) → k < n → getD t (from + k) 0 < 128
+unfoldable pub isAscii : List ℕ → (from n : ℕ) → Bool
+isAscii t from n = every (λ b. ltb b 128) (take n (drop from t))
 
 -- `i` is reached from `from` by whole scalars
 pub record Reached (t : List ℕ) (from i : ℕ) : Type 0 where

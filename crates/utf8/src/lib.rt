@@ -1,5 +1,4 @@
 // UTF-8, by the Unicode Standard, Table 3-7: the scalar at a byte of a text, and the longest well-formed prefix.
-ghost use mathlib.Core.Bool.{true};
 ghost use mathlib.Core.List.{[], _∷_};
 ghost use mathlib.Core.Path.{_≡_};
 ghost use Prim.Native.Nat.{_+_, _*_, _%_, _≤_, _<_};
@@ -7,7 +6,7 @@ ghost use lib.ListN.{length, drop};
 ghost use Rattle.rules.specs.Utf8.{_to_, inRanges, leadingOnes, scalarSize, scalarValue, wellFormedPrefix};
 ghost use Rattle.utf8.specs.Second.{lowest, highest};
 ghost use Rattle.utf8.specs.Value.{lowFirst};
-ghost use Rattle.utf8.specs.Passed.{Ascii, Passed};
+ghost use Rattle.utf8.specs.Passed.{isAscii, Passed};
 
 // How many bytes are tested for ASCII at once.
 const BLOCK: usize = 32;
@@ -139,17 +138,17 @@ pub fn scalar_value(text: &[u8], at: usize) -> u32
     six_more(three, text[at + 3])
 }
 
-// Whether the block at `at` is ASCII: the sum of its bytes' highest bits is 0. The loop has no other way out, so that it is
-// compiled to vector instructions.
+// Whether the block at `at` is ASCII: no byte of it has its highest bit. The loop has no other way out, so that it is compiled
+// to vector instructions.
 fn is_ascii_block(text: &[u8], at: usize) -> bool
     requires { ⌜ at + 32 ≤ length (now text) ⌝ }
-    ensures { λ r. ⌜ (r ≡ true → Ascii (now (text .entry)) at 32) ⌝ }
+    ensures { λ r. ⌜ r ≡ isAscii (now (text .entry)) at 32 ⌝ }
 {
-    let mut high: u8 = 0;
+    let mut bits: u8 = 0;
     for j in 0..BLOCK {
-        high += text[at + j] / 128;
+        bits = bits | text[at + j];
     }
-    high == 0
+    bits < 128
 }
 
 // Passes scalars from `from` on, up to `end` or past it, or to where no scalar begins.

@@ -1,5 +1,6 @@
 -- `utf8::pass_block` meets its contract.
 -- Assumes nothing.
+use mathlib.Core.Path.{sym, _∙_}
 use native.Mathlib.Omega.{arith}
 use borrow.Author.Needs.{needs}
 use Rattle.utf8.proofs.PassLaws.{far-enough, ascii-passed}
@@ -13,7 +14,7 @@ add-result : tie.Need-add-result
 add-result c = search needs
 
 returns : tie.Need-returns
-returns c = far-enough (ascii-passed _ _ 32 (c .before .before .before .pre) (c .before .is-ascii-block .ensures (c .if1 .taken))) (omega arith)
+returns c = far-enough (ascii-passed _ _ 32 (c .before .before .before .pre) (sym (c .before .is-ascii-block .ensures) ∙ c .if1 .taken)) (omega arith)
 
 add-pass-scalars : tie.Need-add-pass-scalars
 add-pass-scalars c = search needs
