@@ -5,7 +5,7 @@ use mathlib.Core.Bool.{Bool, true, false}
 use mathlib.Core.List.{List, [], _∷_}
 use lib.Dec.{eqb}
 use lib.ListN.{take}
-use Rattle.rules.specs.Lists.{if_then_else_}
+use Rattle.rules.specs.Lists.{if_then_else_, overwrite}
 use Rattle.rules.specs.Kinds.{LParen, RParen, Indent}
 use Rattle.rules.specs.Line as rules-line
 use Rattle.line.specs.declared.State.{State}
@@ -25,6 +25,12 @@ abbrev pub comparedOf : Compared → (widths : List ℕ) → rules-line.Levels
 comparedOf (Levels l) ws = rules-line.Levels.levels (leading l) (take (l .levels) ws)
 comparedOf Unequal ws = rules-line.Levels.unequal
 comparedOf TooDeep ws = rules-line.Levels.tooDeep
+
+-- the lent widths after a line: those of the levels then open stand at the front, the others are as they were; all are where it is refused
+abbrev pub widthsAfter : rules-line.Levels → (widths : List ℕ) → List ℕ
+widthsAfter (rules-line.Levels.levels ts now) ws = overwrite now ws
+widthsAfter rules-line.Levels.unequal ws = ws
+widthsAfter rules-line.Levels.tooDeep ws = ws
 
 -- at most 16 levels open and as many closed
 abbrev pub Within : Compared → Type 0

@@ -12,7 +12,7 @@ ghost use Rattle.rules.specs.Records.{tokenWords};
 ghost use lib.Dec.{ltb};
 ghost use Rattle.spelling.specs.Bytes.{classTable, reachTable};
 ghost use Rattle.spelling.specs.Rows.{keywordTable, signTable, signIndexTable};
-ghost use Rattle.line.specs.States.{stateOf, leading, comparedOf, Within, depthBy};
+ghost use Rattle.line.specs.States.{stateOf, leading, comparedOf, widthsAfter, Within, depthBy};
 ghost use Rattle.line.specs.LineCuts.{lineCutsOf, tokensOf, RoomFor, wholeLine, lineReadOf, tokensIn, RoomIn, counted, countedOf, LevelsWithin};
 ghost use Rattle.laws.specs.Puts.{putIf};
 
@@ -156,6 +156,7 @@ fn compare_levels(widths: &mut [u32], levels: usize, width: u32) -> Compared
     requires { ⌜ (length (now widths) ≡ 16) × (levels ≤ 16) ⌝ }
     ensures { λ r. ⌜ comparedOf r (now (widths .exit)) ≡ compared 16 width (take levels (now (widths .entry))) ⌝ }
     ensures { λ r. ⌜ Within r ⌝ }
+    ensures { λ _. ⌜ now (widths .exit) ≡ widthsAfter (compared 16 width (take levels (now (widths .entry)))) (now (widths .entry)) ⌝ }
 {
     if innermost(widths, levels) < width {
         if levels == 16 {
@@ -197,6 +198,7 @@ pub fn levels_of(line: &[u8], s: State, widths: &mut [u32]) -> Compared
     requires { ⌜ (length (now line) ≤ 1_048_576) × (length (now widths) ≡ 16) × (s .levels ≤ 16) ⌝ }
     ensures { λ r. ⌜ comparedOf r (now (widths .exit)) ≡ levelsOf 16 (stateOf s (now (widths .entry))) (now (line .entry)) ⌝ }
     ensures { λ r. ⌜ Within r ⌝ }
+    ensures { λ _. ⌜ now (widths .exit) ≡ widthsAfter (levelsOf 16 (stateOf s (now (widths .entry))) (now (line .entry))) (now (widths .entry)) ⌝ }
 {
     let levels = s.levels;
     if is_compared(line, s) {
@@ -472,6 +474,7 @@ pub fn read_line(
     requires { ⌜ (write ≡ true → RoomIn (readLine 16 (stateOf s (now widths)) (now line)) k (length (now tokens))) ⌝ }
     ensures { λ r. ⌜ countedOf r (now (widths .exit)) ≡ counted (readLine 16 (stateOf s (now (widths .entry))) (now (line .entry))) ⌝ }
     ensures { λ r. ⌜ LevelsWithin r ⌝ }
+    ensures { λ _. ⌜ now (widths .exit) ≡ widthsAfter (levelsOf 16 (stateOf s (now (widths .entry))) (now (line .entry))) (now (widths .entry)) ⌝ }
     ensures { λ _. ⌜ now (tokens .exit) ≡ putIf write (now (tokens .entry)) (5 * k) (tokenWords position number (tokensIn (readLine 16 (stateOf s (now (widths .entry))) (now (line .entry))))) ⌝ }
 {
     let depth = s.depth;

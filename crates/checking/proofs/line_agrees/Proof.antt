@@ -28,7 +28,7 @@ tokens-agree-requires c κs =
     let q = p .1 .1 .1 .1 .1 in
     let lead = c .before .lead .given .0 .0 in
     let e = levels-known (stateOf (a .s) (a .widths .now)) (a .line .now) _ lead _ (c .before .before .before .before .before .levels-of .ensures .0) (c .before .lead .given .1) in
-    let within : (lead .levels ≤ 16) × (lead .closes ≤ 16) = subst Within (c .before .lead .given .1) (c .before .before .before .before .before .levels-of .ensures .1) in
+    let within : (lead .levels ≤ 16) × (lead .closes ≤ 16) = subst Within (c .before .lead .given .1) (c .before .before .before .before .before .levels-of .ensures .1 .0) in
     (p .0, (p .1 .0, (p .1 .1 .0, (p .1 .1 .1 .0, (p .1 .1 .1 .1 .0, (q .0, within .1))))))
 
 enum-told : tie.Need-enum-told
@@ -47,7 +47,7 @@ returns c =
     let q = p .1 .1 .1 .1 .1 in
     let lead = c .before .before .lead .given .0 .0 in
     let e = levels-known (stateOf (a .s) (a .widths .now)) (a .line .now) _ lead _ (c .before .before .before .before .before .before .levels-of .ensures .0) (c .before .before .lead .given .1) in
-    let within : (lead .levels ≤ 16) × (lead .closes ≤ 16) = subst Within (c .before .before .lead .given .1) (c .before .before .before .before .before .before .levels-of .ensures .1) in (
+    let within : (lead .levels ≤ 16) × (lead .closes ≤ 16) = subst Within (c .before .before .lead .given .1) (c .before .before .before .before .before .before .levels-of .ensures .1 .0) in (
       agreed-line (stateOf (a .s) (a .widths .now)) (a .line .now) lead _ (a .position) (a .number) (a .k) (a .tokens .now) _ e (c .tokens-agree .ensures),
       agrees-within lead _ (lineCutsOf (a .s .depth) (cutsFrom 0 0 (a .line .now))) _ (c .tokens-agree .ensures) (within .0),
     )

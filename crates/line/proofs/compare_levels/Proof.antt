@@ -17,7 +17,8 @@ returns : tie.Need-returns
 returns c =
     let b = c .before .before in
     let a = b .before .before .before .args in
-    (sym (compared-deep (a .widths .now) (a .levels) (a .width) (omega arith) (omega arith) (omega (arith, b .innermost .ensures)) (c .if2 .taken)), tt)
+    let e = compared-deep (a .widths .now) (a .levels) (a .width) (omega arith) (omega arith) (omega (arith, b .innermost .ensures)) (c .if2 .taken) in
+    (e .0, (tt, e .1))
 
 mul-widths : tie.Need-mul-widths
 mul-widths c = search needs
@@ -35,7 +36,8 @@ returns-2 : tie.Need-returns-2
 returns-2 c =
     let b = c .before .before in
     let a = b .before .before .before .args in
-    (sym (compared-opens (a .widths .now) (a .levels) (a .width) (omega arith) (omega arith) (omega (arith, b .innermost .ensures)) (c .if2 .left)), (omega arith, omega arith))
+    let e = compared-opens (a .widths .now) (a .levels) (a .width) (omega arith) (omega arith) (omega (arith, b .innermost .ensures)) (c .if2 .left) in
+    (e .0, ((omega arith, omega arith), e .1))
 
 levels-left-requires : tie.Need-levels-left-requires
 levels-left-requires c κs = search needs
@@ -51,7 +53,8 @@ returns-3 c =
     let l = c .before .before .before in
     let b = l .before .before .before in
     let a = b .before .before .before .args in
-    (sym (compared-unequal (a .widths .now) (a .levels) (a .width) (omega arith) (omega arith) (omega (arith, b .innermost .ensures)) (l .levels-left .result) (l .levels-left .ensures .0) (l .levels-left .ensures .1) (λ e. c .if3 .taken (c .before .innermost2 .ensures ∙ e))), tt)
+    let e = compared-unequal (a .widths .now) (a .levels) (a .width) (omega arith) (omega arith) (omega (arith, b .innermost .ensures)) (l .levels-left .result) (l .levels-left .ensures .0) (l .levels-left .ensures .1) (λ e. c .if3 .taken (c .before .innermost2 .ensures ∙ e)) in
+    (e .0, (tt, e .1))
 
 sub-t17 : tie.Need-sub-t17
 sub-t17 c = search needs
@@ -64,7 +67,8 @@ returns-4 c =
     let l = c .before .before .before in
     let b = l .before .before .before in
     let a = b .before .before .before .args in
-    (sym (compared-closes (a .widths .now) (a .levels) (a .width) (omega arith) (omega arith) (omega (arith, b .innermost .ensures)) (l .levels-left .result) (l .levels-left .ensures .0) (l .levels-left .ensures .1) (sym (c .before .innermost2 .ensures) ∙ c .if3 .left)), (omega arith, omega arith))
+    let e = compared-closes (a .widths .now) (a .levels) (a .width) (omega arith) (omega arith) (omega (arith, b .innermost .ensures)) (l .levels-left .result) (l .levels-left .ensures .0) (l .levels-left .ensures .1) (sym (c .before .innermost2 .ensures) ∙ c .if3 .left) in
+    (e .0, ((omega arith, omega arith), e .1))
 
 pub compare-levels-spec : {M : Type 1} → statement M
 compare-levels-spec =

@@ -5,7 +5,9 @@ use mathlib.Core.Path.{_≡_, refl, sym, ap, _∙_}
 use native.Mathlib.Omega.{arith}
 use lib.ListN.{take}
 use borrow.Author.Needs.{needs}
-use Rattle.rules.specs.Line.{isCompared, compared, levelsOf}
+use Rattle.rules.specs.Line.{Levels, isCompared, compared, levelsOf}
+use Rattle.line.specs.States.{widthsAfter}
+use Rattle.line.proofs.Levels.{front-stored}
 use Rattle.line.proofs.levels_of.Statement.{statement}
 use Rattle.line.proofs.levels_of.Tie as tie
 
@@ -27,11 +29,17 @@ returns c =
     let b = c .before .before in
     let d = b .before .before .before in
     let a = d .before .before .before .before .args in
-    (rw (sym (d .before .is-compared .ensures) ∙ d .if1 .taken) (b .compare-levels .ensures .0 ∙ ap (λ (w : ℕ). compared 16 w (take (a .s .levels) (a .widths .now))) (b .before .compute-indent .ensures)), b .compare-levels .ensures .1)
+    let e = b .compare-levels .ensures in
+    let taken = sym (d .before .is-compared .ensures) ∙ d .if1 .taken in
+    let is = ap (λ (w : ℕ). compared 16 w (take (a .s .levels) (a .widths .now))) (b .before .compute-indent .ensures) in
+    (rw taken (e .0 ∙ is), (e .1 .0, rw taken (e .1 .1 ∙ ap (λ (x : Levels). widthsAfter x (a .widths .now)) is)))
 
 returns-2 : tie.Need-returns-2
 unfolding levelsOf isCompared
-returns-2 c = (rw (sym (c .before .is-compared .ensures) ∙ c .if1 .left), (omega arith, omega arith))
+returns-2 c =
+    let a = c .before .before .before .before .args in
+    let left = sym (c .before .is-compared .ensures) ∙ c .if1 .left in
+    (rw left, ((omega arith, omega arith), rw left (front-stored (a .s .levels) (a .widths .now) (a .widths .now) (omega arith) refl)))
 
 pub levels-of-spec : {M : Type 1} → statement M
 levels-of-spec =

@@ -32,7 +32,7 @@ cut-after-requires c κs =
     let q = p .1 .1 .1 .1 .1 in
     let lead = c .before .before .lead .given .0 .0 in
     let e = levels-known (stateOf (a .s) (a .widths .now)) (a .line .now) _ lead _ (c .before .before .before .before .before .before .levels-of .ensures .0) (c .before .before .lead .given .1) in
-    let within : (lead .levels ≤ 16) × (lead .closes ≤ 16) = subst Within (c .before .before .lead .given .1) (c .before .before .before .before .before .before .levels-of .ensures .1) in
+    let within : (lead .levels ≤ 16) × (lead .closes ≤ 16) = subst Within (c .before .before .lead .given .1) (c .before .before .before .before .before .before .levels-of .ensures .1 .0) in
     (p .0, (p .1 .0, (p .1 .1 .0, (p .1 .1 .1 .0, (p .1 .1 .1 .1 .0, (q .0, (within .1, λ w. line-room (stateOf (a .s) (a .widths .now)) (a .line .now) lead _ e (a .k) (length (a .tokens .now)) (q .1 .1 w))))))))
 
 enum-told : tie.Need-enum-told
@@ -57,11 +57,14 @@ returns c =
     let q = p .1 .1 .1 .1 .1 in
     let lead = c .before .before .before .before .before .lead .given .0 .0 in
     let e = levels-known (stateOf (a .s) (a .widths .now)) (a .line .now) _ lead _ (c .before .before .before .before .before .before .before .before .before .levels-of .ensures .0) (c .before .before .before .before .before .lead .given .1) in
-    let within : (lead .levels ≤ 16) × (lead .closes ≤ 16) = subst Within (c .before .before .before .before .before .lead .given .1) (c .before .before .before .before .before .before .before .before .before .levels-of .ensures .1) in (
+    let within : (lead .levels ≤ 16) × (lead .closes ≤ 16) = subst Within (c .before .before .before .before .before .lead .given .1) (c .before .before .before .before .before .before .before .before .before .levels-of .ensures .1 .0) in (
       line-counted (stateOf (a .s) (a .widths .now)) (a .line .now) lead _ e _ (c .before .before .cut-after .ensures .0),
       (
         levels-within lead (lineCutsOf (a .s .depth) (cutsFrom 0 0 (a .line .now))) _ (c .before .before .cut-after .ensures .0) (within .0),
-        c .before .before .cut-after .ensures .1 ∙ ap (λ (ts : List Token). putIf (a .write) (a .tokens .now) (5 * a .k) (tokenWords (a .position) (a .number) ts)) (line-tokens (stateOf (a .s) (a .widths .now)) (a .line .now) lead _ e),
+        (
+          c .before .before .before .before .before .before .before .before .before .levels-of .ensures .1 .1,
+          c .before .before .cut-after .ensures .1 ∙ ap (λ (ts : List Token). putIf (a .write) (a .tokens .now) (5 * a .k) (tokenWords (a .position) (a .number) ts)) (line-tokens (stateOf (a .s) (a .widths .now)) (a .line .now) lead _ e),
+        ),
       ),
     )
 
@@ -74,7 +77,7 @@ returns-2 c =
     let a = c .before .before .before .before .before .before .before .before .before .before .args in
     let e = read-unequal (stateOf (a .s) (a .widths .now)) (a .line .now) _ _ (c .before .before .before .before .before .levels-of .ensures .0) (c .before .enum-told .given .1) in (
       ap (λ (n : ℕ). countedHalts (failed (failure badIndent 0 0 n))) (c .leading-indent-bytes .ensures) ∙ ap counted (sym e),
-      (tt, sym (putIf-none (a .write) (a .tokens .now) (5 * a .k)) ∙ ap (λ (x : LineReply). putIf (a .write) (a .tokens .now) (5 * a .k) (tokenWords (a .position) (a .number) (tokensIn x))) (sym e)),
+      (tt, (c .before .before .before .before .before .levels-of .ensures .1 .1, sym (putIf-none (a .write) (a .tokens .now) (5 * a .k)) ∙ ap (λ (x : LineReply). putIf (a .write) (a .tokens .now) (5 * a .k) (tokenWords (a .position) (a .number) (tokensIn x))) (sym e))),
     )
 
 same-length-4 : tie.Need-same-length-4
@@ -86,7 +89,7 @@ returns-3 c =
     let a = c .before .before .before .before .before .before .before .before .before .args in
     let e = read-deep (stateOf (a .s) (a .widths .now)) (a .line .now) _ _ (c .before .before .before .before .levels-of .ensures .0) (c .enum-told2 .given .1) in (
       ap counted (sym e),
-      (tt, sym (putIf-none (a .write) (a .tokens .now) (5 * a .k)) ∙ ap (λ (x : LineReply). putIf (a .write) (a .tokens .now) (5 * a .k) (tokenWords (a .position) (a .number) (tokensIn x))) (sym e)),
+      (tt, (c .before .before .before .before .levels-of .ensures .1 .1, sym (putIf-none (a .write) (a .tokens .now) (5 * a .k)) ∙ ap (λ (x : LineReply). putIf (a .write) (a .tokens .now) (5 * a .k) (tokenWords (a .position) (a .number) (tokensIn x))) (sym e))),
     )
 
 pub read-line-spec : {M : Type 1} → statement M

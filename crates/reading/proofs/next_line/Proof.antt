@@ -79,7 +79,7 @@ module _ (r : tie.After-read-line) where
       × (r .read-line .last .1 .1 .1 .1 .1 .1 .0 ≡ putIf (a .write) (a .tokens .now) (5 * a .k) (tokenWords (a .base + a .at) (a .m + 1) (tokensIn (readLine 16 (z here) (line-here here)))))
   written =
       let a = here .args in
-      (ended .before .before .before .put-line .ensures, r .read-line .ensures .1 .1 ∙ ap (λ (y : LineReply). putIf (a .write) (a .tokens .now) (5 * a .k) (tokenWords (a .base + a .at) (a .m + 1) (tokensIn y))) (sym reply-is))
+      (ended .before .before .before .put-line .ensures, r .read-line .ensures .1 .1 .1 ∙ ap (λ (y : LineReply). putIf (a .write) (a .tokens .now) (5 * a .k) (tokenWords (a .base + a .at) (a .m + 1) (tokensIn y))) (sym reply-is))
 
 abbrev reads-at : tie.After-past-lf → tie.After-read-line
 reads-at c = c .before .before .before .before .before .before .before .before
