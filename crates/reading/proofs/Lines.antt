@@ -14,7 +14,7 @@ use Rattle.rules.specs.Lists.{if_then_else_, run}
 use Rattle.rules.specs.Failure.{Failure, failureRecord}
 use Rattle.rules.specs.Line as rules-line
 use Rattle.rules.specs.Line.{initial, Token, tokenAt, dedents, Halt, failed, overLimit, LineReply, lineReads, lineHalts, readLine}
-use Rattle.rules.specs.Reading.{linesOf, notLF, Entry, entry, Reading, reads, halts, readFrom, byteSum, tokenSum, firstSize, lineAt, sizeAt}
+use Rattle.rules.specs.Reading.{linesOf, notLF, Entry, entry, Reading, reads, halts, readFrom, byteSum, tokenSum, lineAt, sizeAt}
 use Rattle.rules.specs.Replies.{maxLevels}
 use Rattle.rules.specs.Records.{lineNeed, tokenNeed, lineRecord, lineRecords, tokenWords, tokenRecords, endEntry, withEnd, recordsOf}
 use Rattle.rules.proofs.LineLaws.{firstSize-le, firstSize-lf, firstSize-end, firstSize-some}

@@ -7,7 +7,7 @@ ghost use lib.ListN.{length, getD, take, drop};
 ghost use lib.Seq.{sets};
 ghost use Rattle.rules.specs.Lists.{same};
 ghost use Rattle.rules.specs.Line.{readLine};
-ghost use Rattle.rules.specs.Reading.{linesRead, lineAt, sizeAt};
+ghost use Rattle.rules.specs.Reading.{linesRead};
 ghost use Rattle.rules.specs.Records.{stateWords, lineRecord, lineRecords, tokenWords, tokenRecords, packed};
 ghost use Rattle.spelling.specs.Bytes.{classTable, reachTable};
 ghost use Rattle.spelling.specs.Rows.{keywordTable, signTable, signIndexTable};

@@ -12,7 +12,7 @@ use lib.Dec.{ltb}
 use borrow.Author.Tests.{lt-ltb}
 use Rattle.rules.specs.Lists.{if_then_else_, any, run}
 use Rattle.rules.specs.Line.{State, initial, Token, Halt, LineReply, lineReads, lineHalts, readLine}
-use Rattle.rules.specs.Reading.{Line, linesOf, countLF, notLF, content, Entry, entry, Reading, reads, halts, readFrom, linesRead, byteSum, tokenSum, firstSize, stateAt, lineAt, sizeAt}
+use Rattle.rules.specs.Reading.{Line, linesOf, content, Entry, entry, Reading, reads, halts, readFrom, linesRead, byteSum, tokenSum, stateAt, lineAt, sizeAt}
 use Rattle.rules.specs.Replies.{maxLevels}
 use Rattle.rules.specs.Records.{lineSize, tokenSize, lineRecords, tokenRecords, endEntry, withEnd, Records, recordsOf}
 use Rattle.rules.specs.StopRule.{Edit, edited, keptFrom, Mark, marksFrom, sameState, sameMark, oldMark, isStop, rereadCount, fromLine, fromByte, fromState}

@@ -59,7 +59,7 @@ abbrev pub StepPost : Lent → Step → Reply → Lent → Type 0
 StepPost q (edit ed) reply q′ = EditPost q ed reply q′
 StepPost q (grow z) reply q′ = (reply ≡ []) × (sizes q′ ≡ z) × Grown q q′
 
--- a step on paper, where the buffers' lengths and the text are: an edit is settled as ever, in the lengths that it finds
+-- the same on paper, where the text is, and the buffers' lengths
 pub record Paper : Type 0 where
   pub sizes : Sizes
   pub text : List ℕ
@@ -67,6 +67,7 @@ pub record Paper : Type 0 where
 abbrev pub paper : Sizes → List ℕ → Paper
 paper z t = record { sizes = z; text = t }
 
+-- an edit is settled as ever, in the lengths that it finds; longer buffers change the lengths alone
 pub record EditOnPaper (p : Paper) (ed : Edit) (reply : Reply) (p′ : Paper) : Type 0 where
   pub reply-is : reply ≡ replyOf (outcome (p .sizes) (p .text) ed)
   pub settled : Settled (p .sizes) (p .text) ed reply (p′ .text)
