@@ -31,11 +31,21 @@
  * numbers. An empty slice still has a non-null, aligned pointer. No two lent
  * slices overlap; the reply and the bytes `w` of an edit overlap none either.
  *
+ * Threads. Calls share no state: they may run at the same time on different buffers,
+ * and those that only read a buffer on the same one. While a call runs, nothing else
+ * may change a buffer that it is lent, also not one that it only reads: a text that
+ * changes during lexpage_read may end the program (a trap).
+ *
  * Pages. A page is a header n, m, k (bytes, lines, tokens), which the caller keeps,
  * and the buffers text, spare, lines and tokens. A page begins as the fresh one,
  * or as a text with the header and the records of a reading. After an accepted
  * edit the header is the one that the reply gives; after a refused one it is as it
  * was, and so are text, lines and tokens (the spare may hold the edited text).
+ * An accepted edit is not atomic: it writes tokens, lines and text in place. Where it is
+ * broken off in the middle and the page is in lasting memory, read the text again
+ * (lexpage_read) before the page is used. That text may then be a mixture of the old and
+ * the new one. Check does not tell: it says whether header and records are those of the
+ * text that is there, not whether this is the text before the edit or after it.
  *
  * Records. Positions and columns are in bytes; lines and columns count from 1.
  *   token, 5 words    kind, position, length, line, column. Kinds are 0 to 92 in the
@@ -95,7 +105,9 @@ uint64_t lexpage_token_text(uint32_t n, uint32_t m, uint32_t k,
                             const uint8_t *names, size_t names_len, uint64_t *reply);
 
 /* One step of a token walk whose next number is `next`:
- * 0, 1, next + 1, kind, position, length, line, column; or 0, 0, next when done. */
+ * 0, 1, next + 1, kind, position, length, line, column; or 0, 0, next when done.
+ * The walk goes by the words lent, not by k: `tokens_len` is 5 * k, also where the buffer is
+ * larger, since what stands past the records would be given as tokens. */
 uint64_t lexpage_walk_step(const uint32_t *tokens, size_t tokens_len, size_t next,
                            uint64_t *reply);
 

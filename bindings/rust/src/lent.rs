@@ -15,8 +15,17 @@
 //! header = edited.header;
 //! assert_eq!((header.bytes, header.lines, header.tokens), (6, 2, 6));
 //! assert!(lent::check(header, &text, &lines, &tokens)?);
+//! assert_eq!(lent::walk(header, &tokens).count(), 6);
 //! # Ok::<(), Refusal>(())
 //! ```
+//!
+//! Calls share no state, so that they may run at the same time on different buffers. While a call runs, nothing may change
+//! what it is lent: Rust's references see to that in one program, but not for memory that another program or a device can
+//! write (a mapped file). A text that changes while it is read may end the program.
+//!
+//! An accepted edit is not atomic: it writes tokens, lines and text in place. A page in lasting memory whose edit was broken
+//! off in the middle is to be read again from its text ([`read`]). That text may then be a mixture of the old and the new
+//! one, and [`check`] does not tell: it says whether header and records are those of the text that is there.
 use crate::ffi::{self, Reply};
 use crate::record::{Edited, Header, Line, Token};
 use crate::refusal::Refusal;
@@ -36,6 +45,11 @@ fn accepted<T>(reply: Reply, from: impl FnOnce(&[u64]) -> T) -> Result<T, Refusa
         [0, values @ ..] => Ok(from(values)),
         refusal => Err(Refusal::from_words(refusal)),
     }
+}
+
+/// The first words of a buffer: so many, or all where there are fewer.
+fn first(words: &[u32], count: usize) -> &[u32] {
+    &words[..count.min(words.len())]
 }
 
 /// Makes the fresh page, which has no bytes. It needs 21 line words (otherwise 5).
@@ -91,12 +105,17 @@ pub fn token_text<'t>(
     })
 }
 
-/// A walk over token words. A record whose kind is above 92, which no reading writes, is refused with 7.
-pub fn walk(tokens: &[u32]) -> Walk<'_> {
-    Walk { tokens, next: 0 }
+/// A walk over the records of a page's tokens: as many as the header says, or as there are words for where fewer are lent.
+/// What stands past them in the buffer is not looked at. A record whose kind is above 92, which no reading writes, is
+/// refused with 7.
+pub fn walk(header: Header, tokens: &[u32]) -> Walk<'_> {
+    Walk {
+        tokens: first(tokens, header.token_words()),
+        next: 0,
+    }
 }
 
-/// A walk over token words, made by [`walk`].
+/// A walk over token records, made by [`walk`].
 #[derive(Debug, Clone)]
 pub struct Walk<'a> {
     tokens: &'a [u32],
@@ -131,9 +150,13 @@ impl ExactSizeIterator for Walk<'_> {}
 
 impl FusedIterator for Walk<'_> {}
 
-/// The records in line words, the one for the end included; words left over are not looked at.
-pub fn line_records(lines: &[u32]) -> impl DoubleEndedIterator<Item = Line> + ExactSizeIterator + Clone + '_ {
-    lines
+/// The records of a page's lines and the one for the end: m + 1 by the header, or as many as there are words for where fewer
+/// are lent. What stands past them in the buffer is not looked at.
+pub fn line_records(
+    header: Header,
+    lines: &[u32],
+) -> impl DoubleEndedIterator<Item = Line> + ExactSizeIterator + Clone + '_ {
+    first(lines, header.line_words())
         .chunks_exact(LINE_WORDS)
         .map(|words| Line::from_words(words.try_into().expect("a chunk of a record's size")))
 }

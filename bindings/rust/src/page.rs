@@ -12,6 +12,9 @@ use core::ops::Range;
 
 /// A script with its line and token records, which every edit keeps current.
 ///
+/// Pages share no state: each may be edited in a thread of its own. An edit is not atomic where the program ends in its
+/// middle; a text that has to outlast that is stored elsewhere and read again.
+///
 /// ```
 /// let mut page = lexpage::Page::new();
 /// page.edit(0..0, b"if wet\n  stop\n")?;
@@ -143,12 +146,12 @@ impl Page {
 
     /// The line records, one for each line.
     pub fn lines(&self) -> impl DoubleEndedIterator<Item = Line> + ExactSizeIterator + Clone + '_ {
-        lent::line_records(&self.lines[..self.header.line_words() - LINE_WORDS])
+        lent::line_records(self.header, &self.lines).take(self.header.lines as usize)
     }
 
     /// The record that stands for the end: it starts at n, with the first closing Dedent and the state before those.
     pub fn end(&self) -> Line {
-        lent::line_records(self.line_words())
+        lent::line_records(self.header, &self.lines)
             .next_back()
             .expect("a page has a record for its end")
     }
@@ -156,7 +159,7 @@ impl Page {
     /// The tokens of the text. To go on from the token with some number (`nth`, `skip`) takes no longer than from the first.
     pub fn tokens(&self) -> Tokens<'_> {
         Tokens {
-            walk: lent::walk(self.token_words()),
+            walk: lent::walk(self.header, &self.tokens),
         }
     }
 

@@ -138,26 +138,42 @@ fn token_text_tests_the_token() {
 }
 
 #[test]
-fn walk_goes_by_the_words() {
-    let (_, _, mut tokens) = records();
-    assert_eq!(lent::walk(&tokens).count(), 6);
-    assert_eq!(lent::walk(&tokens[..29]).count(), 5);
-    assert_eq!(lent::walk(&[]).count(), 0);
-    let mut walk = lent::walk(&tokens[..29]);
-    assert_eq!(walk.nth(3).unwrap().unwrap().position, 4);
+fn walk_goes_by_the_header() {
+    let (header, _, mut tokens) = records();
+    let walk = |tokens| lent::walk(header, tokens);
+    assert_eq!(walk(&tokens).count(), 6);
+    assert_eq!(walk(&[&tokens[..], &[0; 40]].concat()).count(), 6);
+    assert_eq!(lent::walk(Header::default(), &tokens).count(), 0);
+    assert_eq!(walk(&tokens[..29]).count(), 5);
+    assert_eq!(walk(&[]).count(), 0);
+    let mut short = walk(&tokens[..29]);
+    assert_eq!(short.nth(3).unwrap().unwrap().position, 4);
     assert_eq!(
-        (walk.len(), walk.next().unwrap().unwrap().kind),
+        (short.len(), short.next().unwrap().unwrap().kind),
         (1, TokenKind::Newline)
     );
     assert_eq!(
-        (walk.next(), walk.len(), walk.nth(usize::MAX), walk.next()),
+        (short.next(), short.len(), short.nth(usize::MAX), short.next()),
         (None, 0, None, None)
     );
     tokens[5] = 93;
-    let kinds: Vec<_> = lent::walk(&tokens)
+    let kinds: Vec<_> = lent::walk(header, &tokens)
         .map(|token| token.map(|t| t.kind.number()))
         .collect();
     assert_eq!(kinds, [Ok(45), Err(Refusal::Unfit), Ok(90), Ok(45), Ok(92), Ok(91)]);
+}
+
+#[test]
+fn line_records_go_by_the_header() {
+    let (header, lines, _) = records();
+    let starts = |lines: &[u32]| {
+        lent::line_records(header, lines)
+            .map(|line| line.start)
+            .collect::<Vec<_>>()
+    };
+    assert_eq!(starts(&lines), [0, 2, 6]);
+    assert_eq!(starts(&[&lines[..], &[0; 42]].concat()), [0, 2, 6]);
+    assert_eq!(starts(&lines[..62]), [0, 2]);
 }
 
 #[test]
