@@ -185,7 +185,8 @@ fn line_records(tally: &mut Tally) {
     }
 }
 
-/// "Report writes the failure's `message` ... (trailing CRs kept, line number at least 2 wide)"
+/// "Report writes the failure's `message` ... (trailing CRs kept, line number at least 2 wide)"; the caret's row does not follow
+/// the number's width.
 fn messages(tally: &mut Tally) {
     for (text, message) in examples::MESSAGES {
         let mut out = vec![0; message.len()];
@@ -193,12 +194,17 @@ fn messages(tally: &mut Tally) {
         tally.equal(reply, vec![0, message.len() as u64], "report");
         tally.equal(String::from_utf8_lossy(&out).as_ref(), message, "message");
     }
-    for (line, shown) in [(9, "\n 9 | &"), (10, "\n10 | &"), (100, "\n100 | &")] {
+    for (line, shown) in [
+        (1, "\n 1 | &\n  | ^"),
+        (10, "\n10 | &\n  | ^"),
+        (100, "\n100 | &\n  | ^"),
+        (1000, "\n1000 | &\n  | ^"),
+    ] {
         let text = [&vec![b'\n'; line - 1][..], b"&"].concat();
         let message = page::message(&text).unwrap_or_default();
         let message = String::from_utf8_lossy(&message);
-        tally.expect(message.contains(shown), || {
-            format!("line number in {message}")
+        tally.expect(message.ends_with(shown), || {
+            format!("line number and caret in {message}")
         });
     }
 }
