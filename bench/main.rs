@@ -13,6 +13,10 @@ mod page;
 mod parts;
 mod reads;
 mod texts;
+mod worst;
+#[path = "../bindings/rust/tests/worst/mod.rs"]
+#[rustfmt::skip]
+mod worst_texts;
 
 use original::types;
 use page::{read, Page, MIB};
@@ -43,4 +47,6 @@ fn main() {
     edits::table(&SIZES, turns);
     println!("\n### Parts of an edit\n");
     parts::table(&SIZES, turns);
+    println!("\n### Worst texts\n");
+    worst::table(&SIZES, turns / 10 + 1);
 }

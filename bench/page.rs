@@ -34,6 +34,19 @@ pub fn read(text: &[u8], lines: &mut [u32], tokens: &mut [u32], reply: &mut [u64
     }
 }
 
+/// The message of a text's failure, at the front of out.
+pub fn report(text: &[u8], out: &mut [u8], reply: &mut [u64; 16]) {
+    unsafe {
+        lexpage::lexpage_report(
+            text.as_ptr(),
+            text.len(),
+            out.as_mut_ptr(),
+            out.len(),
+            reply.as_mut_ptr(),
+        );
+    }
+}
+
 /// The UTF-8 pass over a text, and a look at its first two bytes.
 pub fn byte_value(text: &[u8], reply: &mut [u64; 16]) {
     unsafe {
@@ -44,9 +57,13 @@ pub fn byte_value(text: &[u8], reply: &mut [u64; 16]) {
 impl Page {
     /// The text, read, with room for some more of everything. A text that fails has room for what stands before the failure.
     pub fn new(text: &[u8]) -> Page {
-        let line_feeds = text.iter().filter(|byte| **byte == b'\n').count();
         let words = lexer::lex_tokens_with_authority(std::str::from_utf8(text).unwrap());
-        let tokens = words.map_or(0, |list| list.len());
+        Page::with_room(text, words.map_or(0, |list| list.len()))
+    }
+
+    /// The same, with room for so many tokens and some more.
+    pub fn with_room(text: &[u8], tokens: usize) -> Page {
+        let line_feeds = text.iter().filter(|byte| **byte == b'\n').count();
         let mut page = Page {
             text: text.to_vec(),
             spare: vec![0; MIB],
@@ -98,6 +115,25 @@ impl Page {
         }
         if self.reply[0] == 0 {
             self.take_header();
+        }
+    }
+
+    /// Whether the page's records are those of a fresh reading of this text; the reply says it.
+    pub fn check(&mut self, text: &[u8]) {
+        let [_, m, k] = self.header;
+        unsafe {
+            lexpage::lexpage_check(
+                text.len() as u32,
+                m,
+                k,
+                text.as_ptr(),
+                text.len(),
+                self.lines.as_ptr(),
+                self.lines.len(),
+                self.tokens.as_ptr(),
+                self.tokens.len(),
+                self.reply.as_mut_ptr(),
+            );
         }
     }
 
