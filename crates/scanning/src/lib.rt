@@ -100,7 +100,7 @@ fn put_refused(out: &mut [u8], number: u32) -> usize
 
 // What `scan` prints for a text, at the front of out; its length. 65,536 bytes hold it for every text. So do 513 line records and 1,024
 // token records for a text of 512 bytes: the answers that a buffer is short do not occur.
-pub fn scan(text: &[u8], out: &mut [u8]) -> usize
+fn put_scan(out: &mut [u8], text: &[u8]) -> usize
     requires { ⌜ 65_536 ≤ length (now out) ⌝ }
     ensures { λ r. ⌜ r ≡ length (scanOutput (now (text .entry))) ⌝ }
     ensures { λ _. ⌜ now (out .exit) ≡ overwrite (scanOutput (now (text .entry))) (now (out .entry)) ⌝ }
@@ -119,4 +119,12 @@ pub fn scan(text: &[u8], out: &mut [u8]) -> usize
         reading::ReadAnswer::ShortLines(_) => put_refused(out, 5),
         reading::ReadAnswer::ShortTokens(_) => put_refused(out, 5),
     }
+}
+
+// The same, in a buffer that is long enough.
+pub fn scan(text: &[u8], out: &mut [u8; 65_536]) -> usize
+    ensures { λ r. ⌜ r ≡ length (scanOutput (now (text .entry))) ⌝ }
+    ensures { λ _. ⌜ now (out .exit) ≡ overwrite (scanOutput (now (text .entry))) (now (out .entry)) ⌝ }
+{
+    put_scan(out, text)
 }

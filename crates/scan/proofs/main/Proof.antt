@@ -20,17 +20,14 @@ array-share-prefix-text c = search needs
 slice-aggregate-scan : tie.Need-slice-aggregate-scan
 slice-aggregate-scan c = search needs
 
-slice-aggregate-scan-2 : tie.Need-slice-aggregate-scan-2
-slice-aggregate-scan-2 c = search needs
-
 scan-requires : tie.Need-scan-requires
 scan-requires c κs = search needs
 
 array-share-prefix-out : tie.Need-array-share-prefix-out
-array-share-prefix-out c = scanned-front _ _ (c .before .scan .ensures) .0
+array-share-prefix-out c = scanned-front _ _ (c .scan .ensures) .0
 
 slice-aggregate-write-all : tie.Need-slice-aggregate-write-all
-slice-aggregate-write-all c = scanned-front _ _ (c .before .before .scan .ensures) .1
+slice-aggregate-write-all c = scanned-front _ _ (c .before .scan .ensures) .1
 
 write-all-requires : tie.Need-write-all-requires
 write-all-requires c κs = search needs
@@ -47,7 +44,6 @@ main-spec =
     large-buffer-requires
     array-share-prefix-text
     slice-aggregate-scan
-    slice-aggregate-scan-2
     scan-requires
     array-share-prefix-out
     slice-aggregate-write-all

@@ -1,4 +1,4 @@
--- `scanning::scan` meets its contract.
+-- `scanning::put_scan` meets its contract.
 -- Assumes nothing.
 use mathlib.Core.Path.{sym, ap, _∙_}
 use native.Mathlib.Omega.{arith}
@@ -6,8 +6,8 @@ use Rattle.reading.specs.Answers.{readNumbers}
 use Rattle.scanning.proofs.Sizes.{refused-room}
 use Rattle.scanning.proofs.Scans.{long-scanned, refused-scanned, never-short, page-room, page-scanned, failure-room, failure-scanned}
 use borrow.Author.Needs.{needs}
-use Rattle.scanning.proofs.scan.Statement.{statement}
-use Rattle.scanning.proofs.scan.Tie as tie
+use Rattle.scanning.proofs.put_scan.Statement.{statement}
+use Rattle.scanning.proofs.put_scan.Tie as tie
 
 put-refused-requires : tie.Need-put-refused-requires
 put-refused-requires c κs = refused-room (c .before .before .before .before .args .out .now) _ (c .before .before .before .before .pre) (omega arith)
@@ -114,8 +114,8 @@ same-length-8 c = search needs
 returns-8 : tie.Need-returns-8
 returns-8 c = absurd (never-short (c .before .before .before .before .before .before .before .before .before .before .before .before .before .before .args .text .now) _ _ (omega (arith, c .before .before .before .before .before .before .before .before .before .before .before .if1 .left)) (omega arith) (omega arith) 4 _ (sym (ap readNumbers (c .before .before .before .before .enum-told5 .given .1)) ∙ c .before .before .before .before .before .before .before .before .read .ensures .0))
 
-pub scan-spec : {M : Type 1} → statement M
-scan-spec =
+pub put-scan-spec : {M : Type 1} → statement M
+put-scan-spec =
     tie.close
     (tie.spec
     put-refused-requires
