@@ -140,13 +140,13 @@ fn token_text_tests_the_token() {
 #[test]
 fn walk_goes_by_the_header() {
     let (header, _, mut tokens) = records();
-    let walk = |tokens| lent::walk(header, tokens);
-    assert_eq!(walk(&tokens).count(), 6);
-    assert_eq!(walk(&[&tokens[..], &[0; 40]].concat()).count(), 6);
+    let count = |words: &[u32]| lent::walk(header, words).count();
+    assert_eq!(count(&tokens), 6);
+    assert_eq!(count(&[&tokens[..], &[0; 40]].concat()), 6);
+    assert_eq!(count(&tokens[..29]), 5);
+    assert_eq!(count(&[]), 0);
     assert_eq!(lent::walk(Header::default(), &tokens).count(), 0);
-    assert_eq!(walk(&tokens[..29]).count(), 5);
-    assert_eq!(walk(&[]).count(), 0);
-    let mut short = walk(&tokens[..29]);
+    let mut short = lent::walk(header, &tokens[..29]);
     assert_eq!(short.nth(3).unwrap().unwrap().position, 4);
     assert_eq!(
         (short.len(), short.next().unwrap().unwrap().kind),
