@@ -2,6 +2,7 @@
 
 extern crate alloc;
 
+mod by_hand;
 mod clock;
 mod edits;
 #[path = "../bindings/rust/src/declarations.rs"]
