@@ -87,7 +87,7 @@ fn rows(name: &str, text: &[u8], changes: &[Change], turns: usize) {
 }
 
 /// The place after the first letter of a word, from this byte on, or the start of its line.
-fn place(text: &[u8], near: usize, at_start: bool) -> usize {
+pub fn place(text: &[u8], near: usize, at_start: bool) -> usize {
     let is_word = |at: &usize| text[*at..at + 2].iter().all(u8::is_ascii_lowercase);
     let word = (near..).find(is_word).unwrap() + 1;
     let before = text[..word].iter().rposition(|byte| *byte == b'\n');

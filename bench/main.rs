@@ -5,6 +5,7 @@ extern crate alloc;
 mod by_hand;
 mod clock;
 mod edits;
+mod floor;
 #[path = "../bindings/rust/src/declarations.rs"]
 #[rustfmt::skip]
 mod lexpage;
@@ -48,6 +49,8 @@ fn main() {
     edits::table(&SIZES, turns);
     println!("\n### Parts of an edit\n");
     parts::table(&SIZES, turns);
+    println!("\n### The floor of an edit\n");
+    floor::table(&SIZES, turns);
     println!("\n### Worst texts\n");
     worst::table(&SIZES, turns / 10 + 1);
 }
