@@ -159,7 +159,7 @@ fn compare_levels(widths: &mut [u32], levels: usize, width: u32) -> Compared
     ensures { λ _. ⌜ now (widths .exit) ≡ widthsAfter (compared 16 width (take levels (now (widths .entry)))) (now (widths .entry)) ⌝ }
 {
     if innermost(widths, levels) < width {
-        if levels == 16 {
+        if 16 <= levels {
             return Compared::TooDeep;
         }
         widths[levels] = width;

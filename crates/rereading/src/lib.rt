@@ -33,18 +33,26 @@ fn first_from(lines: &[u32], m: usize, j: usize, at: usize) -> usize
     r
 }
 
-// The old line to compare with at byte p of the edited text: record j up to a + |w|, beyond it the first from j on that starts at
+// The byte of the old text that stands at p in the edited one, where p is in the kept tail.
+fn old_byte(b: usize, kept: usize, p: usize) -> usize
+    requires { ⌜ (kept ≤ p) × ((b ≤ 4_294_967_295) × (p ≤ 1_048_576)) ⌝ }
+    ensures { λ r. ⌜ r ≡ oldByte b kept p ⌝ }
+{
+    b + (p - kept)
+}
+
+// The old line to compare with at byte `at` of the edited text: record j up to a + |w|, beyond it the first from j on that starts at
 // the same byte of the kept tail or further on.
-fn old_line(lines: &[u32], m: usize, j: usize, b: usize, kept: usize, p: usize) -> usize
+fn old_line(lines: &[u32], m: usize, j: usize, b: usize, kept: usize, at: usize) -> usize
     requires { ⌜ (j ≤ m) × ((m ≤ 4_294_967_295) × (21 * (m + 1) ≤ length (now lines))) ⌝ }
-    requires { ⌜ (b ≤ 4_294_967_295) × (p ≤ 1_048_576) ⌝ }
-    ensures { λ r. ⌜ (p ≤ kept → r ≡ j) × (kept < p → FirstFrom (now (lines .entry)) m j (oldByte b kept p) r) ⌝ }
+    requires { ⌜ (b ≤ 4_294_967_295) × (at ≤ 1_048_576) ⌝ }
+    ensures { λ r. ⌜ (at ≤ kept → r ≡ j) × (kept < at → FirstFrom (now (lines .entry)) m j (oldByte b kept at) r) ⌝ }
     ensures { λ r. ⌜ r ≤ m ⌝ }
 {
-    if p <= kept {
+    if at <= kept {
         return j;
     }
-    first_from(lines, m, j, b + (p - kept))
+    first_from(lines, m, j, old_byte(b, kept, at))
 }
 
 // The 16 widths from `at` on are those of the open levels, and 0 for each other one.
@@ -97,7 +105,7 @@ fn stops_at(
     if p <= kept {
         return false;
     }
-    if lines[21 * j] as usize != b + (p - kept) {
+    if lines[21 * j] as usize != old_byte(b, kept, p) {
         return false;
     }
     same_state(lines, j, s, widths)

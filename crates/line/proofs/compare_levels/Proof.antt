@@ -17,7 +17,7 @@ returns : tie.Need-returns
 returns c =
     let b = c .before .before in
     let a = b .before .before .before .args in
-    let e = compared-deep (a .widths .now) (a .levels) (a .width) (omega arith) (omega arith) (omega (arith, b .innermost .ensures)) (c .if2 .taken) in
+    let e = compared-deep (a .widths .now) (a .levels) (a .width) (omega arith) (omega arith) (omega (arith, b .innermost .ensures)) (omega arith) in
     (e .0, (tt, e .1))
 
 mul-widths : tie.Need-mul-widths
@@ -36,7 +36,7 @@ returns-2 : tie.Need-returns-2
 returns-2 c =
     let b = c .before .before in
     let a = b .before .before .before .args in
-    let e = compared-opens (a .widths .now) (a .levels) (a .width) (omega arith) (omega arith) (omega (arith, b .innermost .ensures)) (c .if2 .left) in
+    let e = compared-opens (a .widths .now) (a .levels) (a .width) (omega arith) (omega arith) (omega (arith, b .innermost .ensures)) (λ e. omega arith) in
     (e .0, ((omega arith, omega arith), e .1))
 
 levels-left-requires : tie.Need-levels-left-requires

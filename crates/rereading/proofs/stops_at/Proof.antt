@@ -1,7 +1,7 @@
 -- `rereading::stops_at` meets its contract.
 -- Assumes nothing.
-use Prim.Native.Nat.{ℕ, _+_, _*_, _≤_}
-use mathlib.Core.Path.{_≡_, refl, sym, ap, _∙_}
+use Prim.Native.Nat.{_*_}
+use mathlib.Core.Path.{sym, _∙_}
 use native.Mathlib.Omega.{arith}
 use Rattle.line.specs.States.{stateOf}
 use Rattle.rereading.proofs.Words.{stop-near, stop-elsewhere, stop-here}
@@ -12,7 +12,7 @@ use Rattle.rereading.proofs.stops_at.Tie as tie
 returns : tie.Need-returns
 returns c =
     let a = c .before .before .before .args in
-    sym (stop-near (a .lines .now) (a .j) (a .b) (a .kept) (a .p) (stateOf (a .s) (a .widths .now)) (c .if1 .taken))
+    sym (stop-near (a .lines .now) (a .j) (a .b) (a .kept) (a .p) (stateOf (a .s) (a .widths .now)) (omega (arith, c .if1 .taken)))
 
 mul-if2 : tie.Need-mul-if2
 mul-if2 c = search needs
@@ -26,24 +26,21 @@ shared-slice-read-if2 c = search needs
 cast-if2 : tie.Need-cast-if2
 cast-if2 c = omega (arith, c .shared-slice-known3 .given (21 * c .before .before .before .before .args .j))
 
-sub-if2 : tie.Need-sub-if2
-sub-if2 c = search needs
-
-add-if2 : tie.Need-add-if2
-add-if2 c = search needs
+old-byte-requires : tie.Need-old-byte-requires
+old-byte-requires c κs = search needs
 
 returns-2 : tie.Need-returns-2
 returns-2 c =
-    let a = c .before .before .before .before .before .args in
-    sym (stop-elsewhere (a .lines .now) (a .j) (a .b) (a .kept) (a .p) (stateOf (a .s) (a .widths .now)) (c .before .before .if1 .left) (c .if2 .taken))
+    let a = c .before .before .before .before .before .before .args in
+    sym (stop-elsewhere (a .lines .now) (a .j) (a .b) (a .kept) (a .p) (stateOf (a .s) (a .widths .now)) (omega (arith, c .before .before .before .if1 .left)) (λ e. c .if2 .taken (e ∙ sym (c .before .old-byte .ensures))))
 
 same-state-requires : tie.Need-same-state-requires
 same-state-requires c κs = search needs
 
 returns-3 : tie.Need-returns-3
 returns-3 c =
-    let a = c .before .before .before .before .before .before .args in
-    c .same-state .ensures ∙ sym (stop-here (a .lines .now) (a .j) (a .b) (a .kept) (a .p) (stateOf (a .s) (a .widths .now)) (c .before .before .before .if1 .left) (c .before .if2 .left))
+    let a = c .before .before .before .before .before .before .before .args in
+    c .same-state .ensures ∙ sym (stop-here (a .lines .now) (a .j) (a .b) (a .kept) (a .p) (stateOf (a .s) (a .widths .now)) (omega (arith, c .before .before .before .before .if1 .left)) (c .before .if2 .left ∙ c .before .before .old-byte .ensures))
 
 pub stops-at-spec : {M : Type 1} → statement M
 stops-at-spec =
@@ -54,8 +51,7 @@ stops-at-spec =
     mul-if2-2
     shared-slice-read-if2
     cast-if2
-    sub-if2
-    add-if2
+    old-byte-requires
     returns-2
     same-state-requires
     returns-3)
