@@ -7,7 +7,7 @@ use std::time::{Duration, Instant};
 /// The bytes of each text: a call on the plain one takes about a millisecond or more.
 const SIZE: usize = 1 << 19;
 
-/// How many times longer a call may take than on the plain text. A text of LFs, with a record for each byte, comes to ten.
+/// How many times longer a call may take than on the plain text. A text of LFs, with a record for each byte, comes to five.
 const TIMES: u32 = 20;
 
 /// The calls that are timed.
@@ -88,7 +88,7 @@ impl<'a> Lent<'a> {
 fn no_text_takes_much_longer_than_a_plain_one() {
     for text in worst::texts(SIZE) {
         let mut worst = Lent::new(&text.page, (text.at, text.out, text.w));
-        let mut plain = Lent::new(&text.plain, (0, 0, b" "));
+        let mut plain = Lent::new(&text.plain, (0, 0, b"(\n"));
         for call in CALLS {
             let due = TIMES * (0..5).map(|_| plain.time(call)).min().unwrap();
             let runs = (0..3).map(|_| worst.time(call));

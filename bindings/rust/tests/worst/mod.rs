@@ -17,10 +17,10 @@ fn repeated(parts: &[(&str, usize)]) -> Vec<u8> {
     parts.iter().flat_map(part).collect()
 }
 
-/// A text with an edit at its start, beside statements in one line.
+/// A text with an edit at its start, beside short statements, one in a line.
 fn edited_at_start(name: &'static str, parts: &[(&str, usize)], w: &'static [u8]) -> Worst {
     let page = repeated(parts);
-    let plain = repeated(&[("pen_4 := rate; ", page.len())]);
+    let plain = repeated(&[("x := 4;\n", page.len())]);
     Worst {
         name,
         page,
