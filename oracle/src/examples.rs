@@ -507,6 +507,10 @@ pub const MESSAGES: &[(&[u8], &str)] = &[
         "error[E0001]: unexpected character '?'\n --> <input>:2:5\n  |\n 2 | \"é\"?\n  |     ^",
     ),
     (
+        b"\"\xC3\xA9\xC3\xA9\"?",
+        "error[E0001]: unexpected character '?'\n --> <input>:1:7\n  |\n 1 | \"éé\"?\n  |       ^",
+    ),
+    (
         b"\t?",
         "error[E0001]: unexpected character '?'\n --> <input>:1:2\n  |\n 1 | \t?\n  |  ^",
     ),
