@@ -1,7 +1,7 @@
 -- A search through one group of spellings finds what the whole search finds: words by first letter, signs by first byte.
 -- Assumes nothing.
 use Prim.Native.Nat.{ℕ, suc, _<_}
-use mathlib.Core.Path.{_≡_, refl, sym, ap}
+use mathlib.Core.Path.{_≡_, refl, sym, ap, _∙_}
 use mathlib.Core.Bool.{Bool, true, false, _&&_, false≢true}
 use mathlib.Core.List.{List, [], _∷_}
 use mathlib.Core.Option.{some}
@@ -19,18 +19,20 @@ if-under : {A B : Type 0} (f : A → B) (b : Bool) (x y : A) → (if b then f x 
 if-under f true x y = refl
 if-under f false x y = refl
 
--- Signs.
-
--- spellings that the text does not begin with may be left out
-module _ (f : Spelling → Bool) (s : List ℕ) (out : (k : Spelling) → f k ≡ false → begins (k .bytes) s ≡ false) where
-  find-only : (ks : List Spelling) → findIn (only f ks) s ≡ findIn ks s
-  unfolding findIn keep only
-  find-only [] = refl
-  find-only (k ∷ ks) = go (f k) refl (find-only ks)
+-- A search that takes the first spelling of a list which passes a test: those that do not pass may be left out.
+module _ {A : Type 0} (found : List Spelling → A) (takes : Spelling → Bool) (gives : Spelling → A)
+    (step : (k : Spelling) (ks : List Spelling) → found (k ∷ ks) ≡ (if takes k then gives k else found ks))
+    (f : Spelling → Bool) (out : (k : Spelling) → f k ≡ false → takes k ≡ false) where
+  found-only : (ks : List Spelling) → found (only f ks) ≡ found ks
+  unfolding keep only
+  found-only [] = refl
+  found-only (k ∷ ks) = go (f k) refl (found-only ks)
     where
-      go : (b : Bool) → f k ≡ b → findIn (only f ks) s ≡ findIn ks s → findIn (keep b k (only f ks)) s ≡ findIn (k ∷ ks) s
-      go true e r = rw r
-      go false e r = rw (out k e) r
+      go : (b : Bool) → f k ≡ b → found (only f ks) ≡ found ks → found (keep b k (only f ks)) ≡ found (k ∷ ks)
+      go true e r = step k (only f ks) ∙ rw r (sym (step k ks))
+      go false e r = r ∙ sym (step k ks ∙ rw (out k e))
+
+-- Signs.
 
 starts-with : (b : ℕ) (p s : List ℕ) → startsWith b p ≡ false → begins p (b ∷ s) ≡ false
 unfolding startsWith begins
@@ -39,9 +41,10 @@ starts-with b (x ∷ p) s e = rw e
 
 -- by the first byte
 pub find-starting : (s : List ℕ) → 0 < length s → (ks : List Spelling) → findIn (startingWith (getD s 0 0) ks) s ≡ findIn ks s
-unfolding startingWith
-find-starting [] h ks = absurd (omega arith)
-find-starting (b ∷ s) h ks = find-only _ (b ∷ s) (λ k e. starts-with b (k .bytes) s e) ks
+unfolding startingWith findIn
+find-starting [] h = absurd (omega arith)
+find-starting (b ∷ s) h =
+    found-only (λ ks. findIn ks (b ∷ s)) (λ k. begins (k .bytes) (b ∷ s)) some (λ k ks. refl) _ (λ k e. starts-with b (k .bytes) s e)
 
 -- Words.
 
@@ -63,21 +66,11 @@ same-not (x ∷ p) (y ∷ w) h = go (eqb x y) (same-not p w (λ e. h (ap suc e))
     go true e = e
     go false e = refl
 
--- spellings that are not the word may be left out
-module _ (f : Spelling → Bool) (w : List ℕ) (out : (k : Spelling) → f k ≡ false → same (k .bytes) w ≡ false) where
-  word-only : (ks : List Spelling) → wordKind (only f ks) w ≡ wordKind ks w
-  unfolding wordKind keep only
-  word-only [] = refl
-  word-only (k ∷ ks) = go (f k) refl (word-only ks)
-    where
-      go : (b : Bool) → f k ≡ b → wordKind (only f ks) w ≡ wordKind ks w → wordKind (keep b k (only f ks)) w ≡ wordKind (k ∷ ks) w
-      go true e r = rw r
-      go false e r = rw (out k e) r
-
 -- by the first letter
 pub word-of-letter : (w : List ℕ) (ks : List Spelling) → wordKind (ofLetter (letterOf w) ks) w ≡ wordKind ks w
-unfolding ofLetter
-word-of-letter w = word-only _ w (λ k e. go (k .bytes) (same (k .bytes) w) refl (eqb-false _ _ e))
+unfolding ofLetter wordKind
+word-of-letter w =
+    found-only (λ ks. wordKind ks w) (λ k. same (k .bytes) w) (λ k. k .kind) (λ k ks. refl) _ (λ k e. go (k .bytes) (same (k .bytes) w) refl (eqb-false _ _ e))
   where
     go : (p : List ℕ) (b : Bool) → same p w ≡ b → (letterOf p ≡ letterOf w → ⊥) → b ≡ false
     go p false e h = refl
