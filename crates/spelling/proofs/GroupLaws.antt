@@ -1,6 +1,6 @@
 -- A search through one group of spellings finds what the whole search finds: words by first letter, signs by first byte.
 -- Assumes nothing.
-use Prim.Native.Nat.{ℕ, suc, _<_}
+use Prim.Native.Nat.{ℕ, _<_}
 use mathlib.Core.Path.{_≡_, refl, sym, ap, _∙_}
 use mathlib.Core.Bool.{Bool, true, false, _&&_, false≢true}
 use mathlib.Core.List.{List, [], _∷_}
@@ -55,26 +55,19 @@ same-begins [] (y ∷ w) e = absurd (omega arith)
 same-begins (x ∷ p) [] e = refl
 same-begins (x ∷ p) (y ∷ w) e = ap (λ (b : Bool). eqb x y && b) (same-begins p w (omega arith))
 
-pub same-not : (p w : List ℕ) → (length p ≡ length w → ⊥) → same p w ≡ false
-unfolding same
-same-not [] [] h = absurd (h refl)
-same-not [] (y ∷ w) h = refl
-same-not (x ∷ p) [] h = refl
-same-not (x ∷ p) (y ∷ w) h = go (eqb x y) (same-not p w (λ e. h (ap suc e)))
+pub same-not : (p w : List ℕ) → (p ≡ w → ⊥) → same p w ≡ false
+same-not p w h = go (same p w) refl
   where
-    go : (b : Bool) → same p w ≡ false → (b && same p w) ≡ false
-    go true e = e
+    go : (b : Bool) → same p w ≡ b → b ≡ false
     go false e = refl
+    go true e = absurd (h (same-true p w e))
 
 -- by the first letter
 pub word-of-letter : (w : List ℕ) (ks : List Spelling) → wordKind (ofLetter (letterOf w) ks) w ≡ wordKind ks w
 unfolding ofLetter wordKind
 word-of-letter w =
-    found-only (λ ks. wordKind ks w) (λ k. same (k .bytes) w) (λ k. k .kind) (λ k ks. refl) _ (λ k e. go (k .bytes) (same (k .bytes) w) refl (eqb-false _ _ e))
-  where
-    go : (p : List ℕ) (b : Bool) → same p w ≡ b → (letterOf p ≡ letterOf w → ⊥) → b ≡ false
-    go p false e h = refl
-    go p true e h = absurd (h (ap letterOf (same-true p w e)))
+    found-only (λ ks. wordKind ks w) (λ k. same (k .bytes) w) (λ k. k .kind) (λ k ks. refl) _
+    (λ k e. same-not (k .bytes) w (λ q. eqb-false _ _ e (ap letterOf q)))
 
 -- The cut of a sign.
 

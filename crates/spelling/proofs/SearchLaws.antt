@@ -1,7 +1,7 @@
 -- A row of a table against a text, byte by byte; a row passed or taken by the search.
 -- Assumes nothing.
 use Prim.Native.Nat.{ℕ, suc, _+_, _-_, _*_, _≤_, _<_}
-use mathlib.Core.Path.{_≡_, refl, sym, _∙_}
+use mathlib.Core.Path.{_≡_, refl, sym, ap, _∙_}
 use mathlib.Core.Bool.{Bool, true, false}
 use mathlib.Core.List.{List, _∷_}
 use mathlib.Core.Option.{Option, some}
@@ -123,7 +123,7 @@ module _ {t : List ℕ} {to k : ℕ} (r : Row t to k) (w : List ℕ) {kind : ℕ
 
   -- a row of another length
   pub other-length : (lengthAt t k ≡ length w → ⊥) → kind ≡ wordKind (rowsFrom t (k + 1) (to - (k + 1))) w
-  other-length h = at-spelling ∙ rw (same-not (rowAt t k .bytes) w (λ e. h (sym row-length ∙ e)))
+  other-length h = at-spelling ∙ rw (same-not (rowAt t k .bytes) w (λ e. h (sym row-length ∙ ap length e)))
 
   module _ (l : lengthAt t k ≡ length w) (i : ℕ) (so-far : agreeFrom t w (11 * k) (length w) 0 ≡ agreeFrom t w (11 * k) (length w) i) where
     at-bytes : same (rowAt t k .bytes) w ≡ agreeFrom t w (11 * k) (length w) i
