@@ -1,11 +1,13 @@
 -- A byte literal that reads is cut alike from the whole line and from the line without its trailing CRs, since no step of it takes a CR.
 -- Assumes nothing.
-use Prim.Native.Nat.{ℕ}
+use Prim.Native.Nat.{ℕ, zero, suc, _≤_}
 use mathlib.Core.Path.{_≡_, refl, sym, ap, _∙_}
 use mathlib.Core.Bool.{Bool, true, false}
 use mathlib.Core.List.{List, [], _∷_, _++_}
 use native.Mathlib.Omega.{arith}
 use lib.Dec.{ltb, eqb}
+use lib.ListN.{length, take}
+use lib.Seq.{take-nil}
 use borrow.Author.Tests.{eqb-true}
 use Rattle.rules.specs.Lists.{if_then_else_, within, ascii, elem, trimmed, trimEnd}
 use Rattle.rules.specs.Tables.{isCR, isDigit, isHexDigit}
@@ -81,3 +83,18 @@ token-trimmed s k n e = go (trimEnd isCR s) (trim-before s)
     go : (p : List ℕ) → Before s p → contentCut p ≡ token k n
     go p (whole h) = ap contentCut h ∙ e
     go p (upTo q h) = content-front k n q p (ap contentCut (sym h) ∙ e)
+
+-- a front that holds all but elements at the end which pass the test is trimmed to the same
+pub trim-take : (f : ℕ → Bool) (l : List ℕ) (n : ℕ) → length (trimEnd f l) ≤ n → trimEnd f (take n l) ≡ trimEnd f l
+unfolding trimEnd trimmed
+trim-take f [] n h = ap (trimEnd f) (take-nil n)
+trim-take f (x ∷ l) zero h = none (trimmed (f x) x (trimEnd f l)) h
+  where
+    none : (t : List ℕ) → length t ≤ 0 → [] ≡ t
+    none [] h = refl
+    none (y ∷ t) h = absurd (omega arith)
+trim-take f (x ∷ l) (suc n) h = ap (trimmed (f x) x) (trim-take f l n (rest (f x) (trimEnd f l) h))
+  where
+    rest : (b : Bool) (t : List ℕ) → length (trimmed b x t) ≤ suc n → length t ≤ n
+    rest b [] h = omega arith
+    rest b (y ∷ t) h = omega arith

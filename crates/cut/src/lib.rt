@@ -329,18 +329,23 @@ fn content_cut(line: &[u8], at: usize) -> Cut
     closing_cut(line, at, 3)
 }
 
-// The byte literal that begins with `b'` at `at`. One that reads holds no CR, so where the line's trailing CRs begin matters to a
-// failure alone; a failure ends the reading, so they are looked for once.
+// The byte literal that begins with `b'` at `at`. One that reads holds no CR, so it is cut from the whole line first; where that fails, the
+// line ends at its trailing CRs. A failure ends the reading, so these are looked for once.
 fn scan_ascii_byte_literal(line: &[u8], at: usize) -> Cut
     requires { ⌜ at + 2 ≤ length (trimEnd isCR (now line)) ⌝ }
     ensures { λ r. ⌜ cutOf r ≡ byteCut (drop at (now (line .entry))) ⌝ }
 {
-    match content_cut(line, at) {
-        Cut::Token(kind, size) => Cut::Token(kind, size),
-        _ => {
-            let end = trimmed_end(line);
-            content_cut(&line[0..end], at)
+    let mut end = line.len();
+    loop {
+        let literal = content_cut(&line[0..end], at);
+        if let Cut::Token(_, _) = literal {
+            return literal;
         }
+        let trimmed = trimmed_end(line);
+        if end == trimmed {
+            return literal;
+        }
+        end = trimmed;
     }
 }
 
