@@ -194,7 +194,7 @@ fn put_excerpt(
     put_content(out, write, c, &text[start..])
 }
 
-// The last line: a caret below the failure.
+// The last row: a caret, moved by the byte column.
 fn put_caret(out: &mut [u8], write: bool, at: usize, column: u32) -> usize
     requires { ⌜ (1 ≤ column) × Room write (now out) at (caretOf column) ⌝ }
     ensures { λ r. ⌜ Put write (now (out .entry)) at (caretOf column) (now (out .exit)) r ⌝ }
