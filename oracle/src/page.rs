@@ -327,3 +327,76 @@ fn scan_rows(reading: &Records) -> String {
     }
     rows
 }
+
+/// A page that holds a fresh reading of its text.
+fn page_of(text: &[u8], reading: Records) -> Page {
+    Page {
+        n: reading.n,
+        m: reading.m,
+        k: reading.k,
+        text: text.to_vec(),
+        spare: Vec::new(),
+        lines: reading.lines,
+        tokens: reading.tokens,
+    }
+}
+
+/// The number that the text of a token is granted or refused with, and the text.
+fn text_row(page: &Page, i: u64, names: &str) -> Vec<u8> {
+    let reply = page.token_text(i, names.len());
+    let part = match reply[..] {
+        [0, buffer, start, length] => {
+            let bytes = match buffer {
+                1 => &page.text[..],
+                _ => names.as_bytes(),
+            };
+            &bytes[start as usize..][..length as usize]
+        }
+        _ => &[],
+    };
+    [format!("{} ", reply[0]).as_bytes(), part, b"\n"].concat()
+}
+
+/// The rows of a walk over a page's tokens: five words, and the text.
+fn walk_rows(page: &Page) -> Vec<u8> {
+    let (mut rows, mut next) = (Vec::new(), 0);
+    while let [0, 1, after, words @ ..] = &walk_step(&page.tokens, next)[..] {
+        for word in words {
+            rows.extend(format!("{word} ").bytes());
+        }
+        rows.extend(text_row(page, next, NAMES));
+        next = *after;
+    }
+    rows
+}
+
+/// What the program `walk_tokens` prints: the rows; a token past the last, short names, a header that does not fit; a token of no
+/// bytes and the one after it.
+pub fn walk_output(text: &[u8]) -> Vec<u8> {
+    let Ok(reading) = fresh_reading(text) else {
+        return b"does not read\n".to_vec();
+    };
+    let page = page_of(text, reading);
+    let unfit = Page {
+        k: u32::MAX,
+        ..page.clone()
+    };
+    let empty = Page {
+        n: 0,
+        m: 0,
+        k: 1,
+        text: Vec::new(),
+        spare: Vec::new(),
+        lines: vec![0; LINE_WORDS],
+        tokens: vec![TokenKind::Ident as u32, 0, 0, 1, 1],
+    };
+    [
+        walk_rows(&page),
+        text_row(&page, u64::from(page.k), NAMES),
+        text_row(&page, 0, &NAMES[..16]),
+        text_row(&unfit, 0, NAMES),
+        text_row(&empty, 0, NAMES),
+        text_row(&empty, 1, NAMES),
+    ]
+    .concat()
+}

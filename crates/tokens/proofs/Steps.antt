@@ -1,7 +1,8 @@
 -- A step of a walk, by how many words are left.
 -- Assumes nothing.
 use Prim.Native.Nat.{ℕ, suc, _+_, _*_, _≤_, _<_}
-use mathlib.Core.Path.{_≡_, sym, ap, _∙_}
+use mathlib.Core.Path.{_≡_, refl, sym, ap, _∙_}
+use mathlib.Core.Bool.{Bool, true, false}
 use mathlib.Core.List.{List, [], _∷_}
 use native.Mathlib.Numerals.{add-one}
 use native.Mathlib.Omega.{arith}
@@ -9,6 +10,10 @@ use lib.ListN.{length, getD, take, drop}
 use lib.Seq.{drop-cons}
 use borrow.Author.Tests.{lt-ltb, le-ltb}
 use Rattle.rules.specs.Walk.{isWalked, walkReply}
+use Rattle.tokens.specs.Answers.{recordNumbers, stepNumbers}
+use Rattle.tokens.specs.declared.Step.{Step}
+use Rattle.tokens.specs.declared.Step.the-variants.{Record}
+use Rattle.tokens.specs.declared.TokenRecord.{TokenRecord}
 
 -- the five words from place k on
 abbrev wordsAt : List ℕ → (k : ℕ) → List ℕ
@@ -27,3 +32,19 @@ module _ (ts : List ℕ) (i : ℕ) where
   pub goes-on : 5 * i + 5 ≤ length ts → (0 ∷ 1 ∷ (i + 1) ∷ wordsAt ts (5 * i)) ≡ walkReply ts i
   unfolding walkReply isWalked
   goes-on h = rw (le-ltb (length ts) (5 * i + 5) h, five-words ts (5 * i) h, add-one i)
+
+  -- a step that gives a record goes one further
+  pub one-further : (r : Step) → stepNumbers r ≡ walkReply ts i → (after : ℕ) (t : TokenRecord) → r ≡ Record after t → after ≡ suc i
+  unfolding walkReply
+  one-further r e after t f = go (isWalked ts i) refl
+    where
+      told : (0 ∷ 1 ∷ after ∷ recordNumbers t) ≡ walkReply ts i
+      told = sym (ap stepNumbers f) ∙ e
+
+      go : (b : Bool) → isWalked ts i ≡ b → after ≡ suc i
+      go true w =
+          let h : (0 ∷ 1 ∷ after ∷ recordNumbers t) ≡ (0 ∷ 0 ∷ i ∷ []) = told ∙ rw w in
+          absurd (omega (arith, ap length h))
+      go false w =
+          let h : (0 ∷ 1 ∷ after ∷ recordNumbers t) ≡ (0 ∷ 1 ∷ suc i ∷ take 5 (drop (5 * i) ts)) = told ∙ rw w in
+          cc

@@ -253,3 +253,10 @@ impl<'a> TokenWalk<'a> {
         }
     }
 }
+
+// One step of a walk over these words, begun and moved to the token of this number.
+pub fn step_from(words: &[u32], next: usize) -> Step
+    ensures { λ r. ⌜ stepNumbers r ≡ walkReply (now (words .entry)) next ⌝ }
+{
+    TokenWalk::new(words).moved(next).step()
+}

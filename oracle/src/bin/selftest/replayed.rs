@@ -6,6 +6,7 @@ use oracle::format::{recorded, Case};
 use oracle::generate::lists::{recorded_histories, recorded_texts};
 use oracle::generate::Random;
 use oracle::kept::{kept, kept_lines, read_back};
+use oracle::page::walk_output;
 use oracle::reading::{fresh_reading, LAST_KIND, TOKEN_WORDS};
 use std::collections::BTreeSet;
 use std::fs;
@@ -46,6 +47,14 @@ fn check_files(tally: &mut Tally) {
         });
         tally.equal(held("stdout"), verdict(&cases), program);
     }
+}
+
+/// The program that walks over the tokens of a text writes what the oracle does for it.
+fn check_walk(tally: &mut Tally) {
+    let held = |file| fs::read(Path::new("../crates/walk_tokens").join(file)).unwrap_or_default();
+    tally.expect(held("stdout") == walk_output(&held("stdin")), || {
+        "crates/walk_tokens/stdout is not what `oracle/walk` writes for its stdin".to_string()
+    });
 }
 
 /// "What comes first in a reply", "Details", "Kinds": those of a reading of a short text are all among the recorded texts.
@@ -112,6 +121,7 @@ fn check_read_back(tally: &mut Tally) {
 /// All of them.
 pub fn check(tally: &mut Tally) {
     check_files(tally);
+    check_walk(tally);
     check_kept(tally);
     check_read_back(tally);
     check_reach(tally);
