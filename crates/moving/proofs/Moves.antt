@@ -1,17 +1,38 @@
 -- Records of any width moved within one list: where they stand, down (the first first) and up (the last first).
 -- Assumes nothing.
 use Prim.Native.Nat.{ℕ, zero, suc, _+_, _-_, _*_, _≤_, _<_}
-use mathlib.Core.Path.{_≡_, refl, sym, ap, _∙_}
-use mathlib.Core.List.{List, [], _∷_, _++_}
+use mathlib.Core.Path.{_≡_, refl, sym, ap, subst, _∙_}
+use mathlib.Core.List.{List, [], _∷_, _++_, append-assoc, append-nil}
 use mathlib.Core.Logic.{_⊎_, inl, inr, ⊎-elim}
 use native.Mathlib.Omega.{arith}
-use native.Mathlib.Nat.{add-zero, add-assoc, eq-zero-or-pos, mul-le-mul-left}
+use native.Mathlib.Nat.{add-zero, zero-add, add-suc, suc-add, add-assoc, eq-zero-or-pos, mul-le-mul-left}
 use lib.ListN.{length, getD, set}
 use lib.Seq.{sets, set-getD, getD-set-other}
 use Rattle.laws.specs.Blocks.{blocks}
-use Rattle.laws.proofs.Sets.{sets-append, blocks-length, block-up, block-down, getD-sets-above, getD-sets-below}
+use Rattle.laws.proofs.Sets.{sets-append, sets-before, blocks-length, getD-sets-above, getD-sets-below}
 use Rattle.moving.specs.Moved.{wordValues, distance, shifted, words, movedToken, movedLine}
 use Rattle.moving.proofs.Words.{length-words, words-at, words-same, words-append, getD-sets-in, sets-again, sets-words}
+
+-- Blocks.
+
+blocks-same : (f h : ℕ → List ℕ) (i n : ℕ) → ((j : ℕ) → j < i + n → f j ≡ h j) → blocks f i n ≡ blocks h i n
+blocks-same f h i zero e = refl
+blocks-same f h i (suc n) e = ap (λ (x : List ℕ). x ++ blocks f (suc i) n) (e i (omega arith)) ∙ ap (λ (x : List ℕ). h i ++ x) (blocks-same f h (suc i) n (λ j v. e j (omega arith)))
+
+-- those from j on, counted from there
+blocks-from : (f : ℕ → List ℕ) (j n : ℕ) → blocks (λ i. f (j + i)) 0 n ≡ blocks f j n
+blocks-from f j n = go 0 n ∙ ap (λ (k : ℕ). blocks f k n) (add-zero j)
+  where
+    go : (i n : ℕ) → blocks (λ i. f (j + i)) i n ≡ blocks f (j + i) n
+    go i zero = refl
+    go i (suc n) = ap (λ (x : List ℕ). f (j + i) ++ x) (go (suc i) n ∙ ap (λ (k : ℕ). blocks f k n) (add-suc j i))
+
+blocks-append : (f : ℕ → List ℕ) (i m n : ℕ) → blocks f i (m + n) ≡ blocks f i m ++ blocks f (i + m) n
+blocks-append f i zero n = rw (zero-add, add-zero)
+blocks-append f i (suc m) n =
+    ap (blocks f i) (suc-add m n)
+    ∙ ap (λ (x : List ℕ). f i ++ x) (blocks-append f (suc i) m n ∙ ap (λ (k : ℕ). blocks f (suc i) m ++ blocks f k n) (suc-add i m ∙ sym (add-suc i m)))
+    ∙ sym (append-assoc (f i) (blocks f (suc i) m) (blocks f (i + suc m) n))
 
 -- a record is w words, made of the w words at its place
 pub record Width (w : ℕ) (g : List ℕ → ℕ → List ℕ) : Type 0 where
@@ -27,26 +48,85 @@ module _ {w : ℕ} {g : List ℕ → ℕ → List ℕ} (r : Width w g) (l : List
       ∙ ap (λ (k : List ℕ). sets k d (g l s)) e
       ∙ sets-again (words l s w) (g l s) l d (n ∙ sym (r .wide l s)) (omega arith)
 
+  -- n records' words brought from record s to record d, then made records there
+  pub all-brought : (ws : List ℕ) (s d n : ℕ) → w * (d + n) ≤ length l → ws ≡ sets l (w * d) (words l (w * s) (w * n))
+      → sets ws (w * d) (blocks (λ j. g ws (w * (d + j))) 0 n) ≡ sets l (w * d) (blocks (λ j. g l (w * (s + j))) 0 n)
+  all-brought ws s d n h e =
+      let m = length-words l (w * s) (w * n) in
+      let new : List ℕ = blocks (λ j. g l (w * (s + j))) 0 n in
+      ap (sets ws (w * d)) (blocks-same (λ j. g ws (w * (d + j))) (λ j. g l (w * (s + j))) 0 n (λ j v. r .near ws l (w * (d + j)) (w * (s + j)) (word j (omega arith))))
+      ∙ ap (λ (k : List ℕ). sets k (w * d) new) e
+      ∙ sets-again (words l (w * s) (w * n)) new l (w * d) (m ∙ omega (arith, blocks-length (λ j. g l (w * (s + j))) w (λ j. r .wide l (w * (s + j))) 0 n)) (omega arith)
+    where
+      word : (j : ℕ) → j + 1 ≤ n → (t : ℕ) → t < w → getD ws (w * (d + j) + t) 0 ≡ getD l (w * (s + j) + t) 0
+      word j u t v =
+          let f = mul-le-mul-left w u in
+          let m = length-words l (w * s) (w * n) in
+          let to : w * (d + j) + t ≡ w * d + (w * j + t) = omega arith in
+          let from : w * s + (w * j + t) ≡ w * (s + j) + t = omega arith in
+          ap (λ (k : List ℕ). getD k (w * (d + j) + t) 0) e
+          ∙ ap (λ (i : ℕ). getD (sets l (w * d) (words l (w * s) (w * n))) i 0) to
+          ∙ getD-sets-in (words l (w * s) (w * n)) l (w * d) (w * j + t) (omega arith) (omega arith)
+          ∙ words-at l (w * s) (w * n) (w * j + t) (omega arith)
+          ∙ ap (λ (i : ℕ). getD l i 0) from
+
   module _ (at : ℕ → ℕ) where
     long : (i n : ℕ) → length (blocks (λ j. g l (at j)) i n) ≡ n * w
     long i n = blocks-length (λ j. g l (at j)) w (λ j. r .wide l (at j)) i n
 
-    -- after j records from the first on, the next one: b is where it goes
+    -- after j records from the first on, the next n: b is where they go, `here` where they stand
+    pub down-more : (ws : List ℕ) (base j n b : ℕ) (here : ℕ → ℕ) → ws ≡ sets l base (blocks (λ j. g l (at j)) 0 j) → b ≡ base + j * w
+        → ((i : ℕ) → i < n → here i ≡ at (j + i)) → ((i : ℕ) → i < n → b ≤ at (j + i))
+        → sets ws b (blocks (λ i. g ws (here i)) 0 n) ≡ sets l base (blocks (λ j. g l (at j)) 0 (j + n))
+    down-more ws base j n b here e eb same above =
+        let f : ℕ → List ℕ = λ j. g l (at j) in
+        let m = long 0 j in
+        let eb′ : b ≡ base + length (blocks f 0 j) = omega arith in
+        ap (sets ws b) (blocks-same (λ i. g ws (here i)) (λ i. f (j + i)) 0 n (λ i v. ap (g ws) (same i (omega arith)) ∙ r .near ws l (at (j + i)) (at (j + i)) (λ t u. word t (at (j + i)) (above i (omega arith)))))
+        ∙ ap (sets ws b) (blocks-from f j n)
+        ∙ ap (λ (k : List ℕ). sets k b (blocks f j n)) e
+        ∙ ap (λ (k : ℕ). sets (sets l base (blocks f 0 j)) k (blocks f j n)) eb′
+        ∙ sym (sets-append (blocks f 0 j) (blocks f j n) l base)
+        ∙ ap (sets l base) (sym (blocks-append f 0 j n ∙ ap (λ (k : ℕ). blocks f 0 j ++ blocks f k n) (zero-add j)))
+      where
+        word : (t i : ℕ) → b ≤ i → getD ws (i + t) 0 ≡ getD l (i + t) 0
+        word t i h = ap (λ (k : List ℕ). getD k (i + t) 0) e ∙ getD-sets-above (blocks (λ j. g l (at j)) 0 j) l base (i + t) 0 (omega (arith, long 0 j))
+
+    -- after n records down to record j₁, the m before
+    pub up-more : (ws : List ℕ) (j j₁ m n b b₁ : ℕ) (here : ℕ → ℕ) → ws ≡ sets l b₁ (blocks (λ j. g l (at j)) j₁ n) → j₁ ≡ j + m → b₁ ≡ b + m * w
+        → ((i : ℕ) → i < m → here i ≡ at (j + i)) → ((i : ℕ) → i < m → at (j + i) + w ≤ b₁)
+        → sets ws b (blocks (λ i. g ws (here i)) 0 m) ≡ sets l b (blocks (λ j. g l (at j)) j (m + n))
+    up-more ws j j₁ m n b b₁ here e ej eb same below =
+        let f : ℕ → List ℕ = λ j. g l (at j) in
+        let k = long j m in
+        let eb′ : b₁ ≡ b + length (blocks f j m) = omega arith in
+        ap (sets ws b) (blocks-same (λ i. g ws (here i)) (λ i. f (j + i)) 0 m (λ i v. ap (g ws) (same i (omega arith)) ∙ r .near ws l (at (j + i)) (at (j + i)) (λ t u. word t (at (j + i)) u (below i (omega arith)))))
+        ∙ ap (sets ws b) (blocks-from f j m)
+        ∙ ap (λ (k : List ℕ). sets k b (blocks f j m)) e
+        ∙ ap (λ (k : ℕ). sets (sets l k (blocks f j₁ n)) b (blocks f j m)) eb′
+        ∙ sets-before (blocks f j m) (blocks f j₁ n) l b
+        ∙ ap (λ (k : ℕ). sets l b (blocks f j m ++ blocks f k n)) ej
+        ∙ ap (sets l b) (sym (blocks-append f j m n))
+      where
+        word : (t i : ℕ) → t < w → i + w ≤ b₁ → getD ws (i + t) 0 ≡ getD l (i + t) 0
+        word t i u h = ap (λ (k : List ℕ). getD k (i + t) 0) e ∙ getD-sets-below (blocks (λ j. g l (at j)) j₁ n) l b₁ (i + t) 0 (omega arith)
+
+    -- the next one
     pub down-turn : (ws : List ℕ) (base j b : ℕ) → ws ≡ sets l base (blocks (λ j. g l (at j)) 0 j) → b ≡ base + j * w → b ≤ at j
         → sets ws b (g ws (at j)) ≡ sets l base (blocks (λ j. g l (at j)) 0 (j + 1))
     down-turn ws base j b e eb h =
-        let m = long 0 j in
-        ap (λ (v : List ℕ). sets ws b v) (r .near ws l (at j) (at j) (λ t v. ap (λ (k : List ℕ). getD k (at j + t) 0) e ∙ getD-sets-above (blocks (λ j. g l (at j)) 0 j) l base (at j + t) 0 (omega arith)))
-        ∙ ap (λ (k : List ℕ). sets k b (g l (at j))) e
-        ∙ block-up (λ j. g l (at j)) l base j b (omega arith)
+        ap (sets ws b) (sym (append-nil (g ws (at j))))
+        ∙ down-more ws base j 1 b (λ i. at j) e eb (λ i v. ap at (omega arith)) (λ i v. subst (λ (k : ℕ). b ≤ at k) (omega arith) h)
 
-    -- after n records down to record j₁, the one before
+    -- the one before
     pub up-turn : (ws : List ℕ) (j j₁ n n₁ b b₁ : ℕ) → ws ≡ sets l b₁ (blocks (λ j. g l (at j)) j₁ n) → j₁ ≡ suc j → n₁ ≡ suc n → b₁ ≡ b + w → at j ≤ b
         → sets ws b (g ws (at j)) ≡ sets l b (blocks (λ j. g l (at j)) j n₁)
     up-turn ws j j₁ n n₁ b b₁ e ej en eb h =
-        ap (λ (v : List ℕ). sets ws b v) (r .near ws l (at j) (at j) (λ t v. ap (λ (k : List ℕ). getD k (at j + t) 0) e ∙ getD-sets-below (blocks (λ j. g l (at j)) j₁ n) l b₁ (at j + t) 0 (omega arith)))
-        ∙ ap (λ (k : List ℕ). sets k b (g l (at j))) e
-        ∙ block-down (λ j. g l (at j)) l j j₁ n n₁ b b₁ ej en (eb ∙ ap (λ (k : ℕ). b + k) (sym (r .wide l (at j))))
+        let one : 1 + n ≡ n₁ = omega arith in
+        let h′ : at j + w ≤ b₁ = omega arith in
+        ap (sets ws b) (sym (append-nil (g ws (at j))))
+        ∙ up-more ws j j₁ 1 n b b₁ (λ i. at j) e (omega arith) (omega arith) (λ i v. ap at (omega arith)) (λ i v. subst (λ (k : ℕ). at k + w ≤ b₁) (omega arith) h′)
+        ∙ ap (λ (k : ℕ). sets l b (blocks (λ j. g l (at j)) j k)) one
 
 -- records that are the words where they stand
 pub blocks-still : (w : ℕ) (l : List ℕ) (f : ℕ → List ℕ) (from : ℕ) → ((j : ℕ) → f j ≡ words l (w * (from + j)) w) → (i n : ℕ) → sets l (w * (from + i)) (blocks f i n) ≡ l

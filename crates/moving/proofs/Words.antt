@@ -10,7 +10,7 @@ use lib.ListN.{length, getD, set, take, drop, length-append, length-drop, length
 use lib.Seq.{sets, sets-eq, set-getD, getD-set-same, getD-take, getD-drop, getD-append-add, ext-getD, take-at, drop-at, length-take-le}
 use Rattle.laws.specs.Blocks.{table}
 use Rattle.laws.proofs.Below.{entry}
-use Rattle.laws.proofs.Sets.{sets-append, getD-sets-below, getD-sets-above}
+use Rattle.laws.proofs.Sets.{sets-append, sets-before, getD-sets-below, getD-sets-above}
 use Rattle.moving.specs.Moved.{words}
 
 -- Tables.
@@ -116,6 +116,22 @@ module _ (l ws : List ℕ) (w s d m n : ℕ) (h : m + n ≤ w) (p : (d ≤ s) �
       ∙ ap (λ (k : ℕ). sets (sets l d (words l s m)) (d + k) (words l (s + m) n)) (sym (length-words l s m))
       ∙ sym (sets-append (words l s m) (words l (s + m) n) l d)
       ∙ ap (sets l d) (sym (words-append l s m n))
+
+-- Words moved up: those from s + b on stand at d + b, and the k before them follow.
+module _ (l ws : List ℕ) (s d a k b n : ℕ) (p : s ≤ d) (q : b ≡ a + k) (e : ws ≡ sets l (d + b) (words l (s + b) n)) where
+  ahead : (t : ℕ) → t < k → getD ws (s + a + t) 0 ≡ getD l (s + a + t) 0
+  ahead t v = ap (λ (r : List ℕ). getD r (s + a + t) 0) e ∙ getD-sets-below (words l (s + b) n) l (d + b) (s + a + t) 0 (omega arith)
+
+  pub words-before : sets ws (d + a) (words ws (s + a) k) ≡ sets l (d + a) (words l (s + a) (k + n))
+  words-before =
+      let m : d + b ≡ d + a + length (words l (s + a) k) = omega (arith, length-words l (s + a) k) in
+      let o : s + b ≡ s + a + k = omega arith in
+      ap (λ (r : List ℕ). sets ws (d + a) r) (words-same ws l (s + a) (s + a) k ahead)
+      ∙ ap (λ (r : List ℕ). sets r (d + a) (words l (s + a) k)) e
+      ∙ ap (λ (i : ℕ). sets (sets l i (words l (s + b) n)) (d + a) (words l (s + a) k)) m
+      ∙ sets-before (words l (s + a) k) (words l (s + b) n) l (d + a)
+      ∙ ap (λ (i : ℕ). sets l (d + a) (words l (s + a) k ++ words l i n)) o
+      ∙ ap (sets l (d + a)) (sym (words-append l (s + a) k n))
 
 -- one word stored
 pub one-word : (l : List ℕ) (s d : ℕ) → set l d (getD l s 0) ≡ sets l d (words l s 1)

@@ -60,6 +60,30 @@ fn move_four(ws: &mut [u32], src: usize, dst: usize)
     ws[dst + 3] = z;
 }
 
+// 4n words down, the first four first.
+fn fours_down(ws: &mut [u32], from: usize, to: usize, n: usize)
+    requires { ⌜ (to ≤ from) × (from + 4 * n ≤ length (now ws)) ⌝ }
+    ensures { λ _. ⌜ now (ws .exit) ≡ sets (now (ws .entry)) to (words (now (ws .entry)) from (4 * n)) ⌝ }
+{
+    let mut j: usize = 0;
+    while j < n {
+        move_four(ws, from + 4 * j, to + 4 * j);
+        j += 1;
+    }
+}
+
+// 4n words up, the last four first.
+fn fours_up(ws: &mut [u32], from: usize, to: usize, n: usize)
+    requires { ⌜ (from ≤ to) × (to + 4 * n ≤ length (now ws)) ⌝ }
+    ensures { λ _. ⌜ now (ws .exit) ≡ sets (now (ws .entry)) to (words (now (ws .entry)) from (4 * n)) ⌝ }
+{
+    let mut j = n;
+    while 0 < j {
+        j -= 1;
+        move_four(ws, from + 4 * j, to + 4 * j);
+    }
+}
+
 // The token record at word `at`: its position moved by d, its line by e.
 fn shift_token(tokens: &mut [u32], at: usize, d: u32, e: u32)
     requires { ⌜ at + 5 ≤ length (now tokens) ⌝ }
@@ -95,8 +119,8 @@ fn tokens_still(tokens: &mut [u32], from: usize, count: usize, d: u32, e: u32)
     }
 }
 
-// Down, the first record first.
-fn tokens_down(tokens: &mut [u32], from: usize, to: usize, count: usize, d: u32, e: u32)
+// Down, one record at a time, the first one first.
+fn each_token_down(tokens: &mut [u32], from: usize, to: usize, count: usize, d: u32, e: u32)
     requires { ⌜ (to ≤ from) × (5 * (from + count) ≤ length (now tokens)) ⌝ }
     ensures { λ _. ⌜ now (tokens .exit) ≡ sets (now (tokens .entry)) (5 * to) (blocks (λ j. movedToken d e (now (tokens .entry)) (5 * (from + j))) 0 count) ⌝ }
 {
@@ -107,8 +131,8 @@ fn tokens_down(tokens: &mut [u32], from: usize, to: usize, count: usize, d: u32,
     }
 }
 
-// Up, the last record first.
-fn tokens_up(tokens: &mut [u32], from: usize, to: usize, count: usize, d: u32, e: u32)
+// Up, one record at a time, the last one first.
+fn each_token_up(tokens: &mut [u32], from: usize, to: usize, count: usize, d: u32, e: u32)
     requires { ⌜ (from ≤ to) × (5 * (to + count) ≤ length (now tokens)) ⌝ }
     ensures { λ _. ⌜ now (tokens .exit) ≡ sets (now (tokens .entry)) (5 * to) (blocks (λ j. movedToken d e (now (tokens .entry)) (5 * (from + j))) 0 count) ⌝ }
 {
@@ -117,6 +141,34 @@ fn tokens_up(tokens: &mut [u32], from: usize, to: usize, count: usize, d: u32, e
         j -= 1;
         move_token(tokens, from + j, to + j, d, e);
     }
+}
+
+// Down, 16 records at a time, the first ones first: their 80 words in fours, which are then shifted where they stand.
+fn tokens_down(tokens: &mut [u32], from: usize, to: usize, count: usize, d: u32, e: u32)
+    requires { ⌜ (to ≤ from) × (5 * (from + count) ≤ length (now tokens)) ⌝ }
+    ensures { λ _. ⌜ now (tokens .exit) ≡ sets (now (tokens .entry)) (5 * to) (blocks (λ j. movedToken d e (now (tokens .entry)) (5 * (from + j))) 0 count) ⌝ }
+{
+    let mut j: usize = 0;
+    while 16 <= count - j {
+        fours_down(tokens, 5 * (from + j), 5 * (to + j), 20);
+        tokens_still(tokens, to + j, 16, d, e);
+        j += 16;
+    }
+    each_token_down(tokens, from + j, to + j, count - j, d, e);
+}
+
+// Up, 16 records at a time, the last ones first.
+fn tokens_up(tokens: &mut [u32], from: usize, to: usize, count: usize, d: u32, e: u32)
+    requires { ⌜ (from ≤ to) × (5 * (to + count) ≤ length (now tokens)) ⌝ }
+    ensures { λ _. ⌜ now (tokens .exit) ≡ sets (now (tokens .entry)) (5 * to) (blocks (λ j. movedToken d e (now (tokens .entry)) (5 * (from + j))) 0 count) ⌝ }
+{
+    let mut j = count;
+    while 16 <= j {
+        j -= 16;
+        fours_up(tokens, 5 * (from + j), 5 * (to + j), 20);
+        tokens_still(tokens, to + j, 16, d, e);
+    }
+    each_token_up(tokens, from, to, j, d, e);
 }
 
 // `count` token records from `from` to `to`, which may overlap: positions from p to p2, lines from l to l2.
