@@ -115,7 +115,7 @@ fn leading_size(lead: line::Lead) -> usize
 // The records from k on begin with the tokens of a line.
 fn same_cuts(
     class: &[u8; 256],
-    reach: &[u8; 256],
+    reach: &[u8; 768],
     index: &[u8; 256],
     signs: &[u8; 451],
     keywords: &[u8; 539],
@@ -175,7 +175,7 @@ fn same_cuts(
 // A line whose levels are known: what stands at its start, its cuts, and the Newline.
 fn tokens_agree(
     class: &[u8; 256],
-    reach: &[u8; 256],
+    reach: &[u8; 768],
     index: &[u8; 256],
     signs: &[u8; 451],
     keywords: &[u8; 539],
@@ -234,7 +234,7 @@ fn tokens_agree(
 // One line from the state before it, held against the records from k on; `widths` holds the open levels and then those after the line.
 fn line_agrees(
     class: &[u8; 256],
-    reach: &[u8; 256],
+    reach: &[u8; 768],
     index: &[u8; 256],
     signs: &[u8; 451],
     keywords: &[u8; 539],
@@ -344,7 +344,7 @@ fn end_agrees(
 // All lines, held against the records of a page with `count` lines and `total` tokens.
 fn lines_agree(
     class: &[u8; 256],
-    reach: &[u8; 256],
+    reach: &[u8; 768],
     index: &[u8; 256],
     signs: &[u8; 451],
     keywords: &[u8; 539],

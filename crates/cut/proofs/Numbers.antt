@@ -41,28 +41,28 @@ module _ (l : List ℕ) (i : ℕ) where
     pub fraction-digitless : isDigit (getD l (i + 1) 0) ≡ false → fractionSize (drop i l) ≡ 0
     fraction-digitless d = fraction-step ∙ rw (run-stop isDigit l (i + 1) h d) (ap (λ (b : Bool). fraction-by b (run inDecimal (drop (i + 1) l))) (and-false (begins (ascii ".") (drop i l))))
 
-    pub fraction-is : getD l i 0 ≡ 46 → isDigit (getD l (i + 1) 0) ≡ true → fractionSize (drop i l) ≡ suc (run (reaches 3) (drop (i + 1) l))
+    pub fraction-is : getD l i 0 ≡ 46 → isDigit (getD l (i + 1) 0) ≡ true → fractionSize (drop i l) ≡ suc (run (reaches 2) (drop (i + 1) l))
     unfolding begins
     fraction-is e d =
         let here : begins (ascii ".") (drop i l) ≡ true = rw (drop-cons l i 0 (omega arith), eq-eqb 46 (getD l i 0) (sym e)) in
         fraction-step ∙ rw (here, run-pass isDigit l (i + 1) h d, lt-ltb 0 (suc (run isDigit (drop (i + 1 + 1) l))) (omega arith), run-decimal (drop (i + 1) l))
 
   -- hex digits, after `0x` or `0X`; otherwise a decimal number
-  hex-size : (begins (ascii "0x") (drop i l) || begins (ascii "0X") (drop i l)) ≡ true → digitsSize (drop i l) ≡ 2 + run (reaches 2) (drop (i + 2) l)
+  hex-size : (begins (ascii "0x") (drop i l) || begins (ascii "0X") (drop i l)) ≡ true → digitsSize (drop i l) ≡ 2 + run (reaches 1) (drop (i + 2) l)
   unfolding digitsSize
   hex-size e = rw (e, drop-drop 2 i l, run-hex (drop (i + 2) l))
 
-  pub hex-small : begins (ascii "0x") (drop i l) ≡ true → digitsSize (drop i l) ≡ 2 + run (reaches 2) (drop (i + 2) l)
+  pub hex-small : begins (ascii "0x") (drop i l) ≡ true → digitsSize (drop i l) ≡ 2 + run (reaches 1) (drop (i + 2) l)
   hex-small e = hex-size (rw e)
 
-  pub hex-capital : begins (ascii "0x") (drop i l) ≡ false → begins (ascii "0X") (drop i l) ≡ true → digitsSize (drop i l) ≡ 2 + run (reaches 2) (drop (i + 2) l)
+  pub hex-capital : begins (ascii "0x") (drop i l) ≡ false → begins (ascii "0X") (drop i l) ≡ true → digitsSize (drop i l) ≡ 2 + run (reaches 1) (drop (i + 2) l)
   hex-capital e f = hex-size (rw (e, f))
 
-  pub decimal-digits : begins (ascii "0x") (drop i l) ≡ false → begins (ascii "0X") (drop i l) ≡ false → (end : ℕ) → end ≡ i + run (reaches 3) (drop i l)
+  pub decimal-digits : begins (ascii "0x") (drop i l) ≡ false → begins (ascii "0X") (drop i l) ≡ false → (end : ℕ) → end ≡ i + run (reaches 2) (drop i l)
       → i + digitsSize (drop i l) ≡ end + fractionSize (drop end l)
   unfolding digitsSize decimalSize
   decimal-digits e f end q =
-      let r : run (reaches 3) (drop i l) ≡ run inDecimal (drop i l) = run-decimal (drop i l) in
+      let r : run (reaches 2) (drop i l) ≡ run inDecimal (drop i l) = run-decimal (drop i l) in
       let d : drop (run inDecimal (drop i l)) (drop i l) ≡ drop end l = drop-drop (run inDecimal (drop i l)) i l ∙ ap (λ (n : ℕ). drop n l) (sym (q ∙ ap (λ (n : ℕ). i + n) r)) in
       let n : ℕ = fractionSize (drop end l) in
       rw (e, f, d) (omega arith)

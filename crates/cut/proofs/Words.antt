@@ -33,7 +33,7 @@ plain-word-kind w (k ∷ ks) e =
     let p = and-true (ltb (k .kind) Ident) (every (λ (k : Spelling). ltb (k .kind) Ident) ks) e in
     if-by (λ n. plainKind n ≡ Ident) (same (k .bytes) w) (λ _. rw (p .0)) (λ _. plain-word-kind w ks (p .1))
 
-module _ (line : List ℕ) (at end : ℕ) (e : end ≡ at + run (reaches 1) (drop at line)) where
+module _ (line : List ℕ) (at end : ℕ) (e : end ≡ at + run (reaches 0) (drop at line)) where
   pub word-size : end - at ≡ run inWord (drop at line)
   word-size = omega (arith, run-word (drop at line))
 

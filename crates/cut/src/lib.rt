@@ -362,7 +362,7 @@ fn is_digit(b: u8) -> bool
 }
 
 // Where a fraction at `at` ends: a point and a digit, with all digits and `_` that follow; `at` where there is none.
-fn fraction_end(reach: &[u8; 256], line: &[u8], at: usize) -> usize
+fn fraction_end(reach: &[u8; 768], line: &[u8], at: usize) -> usize
     requires { ⌜ now reach ≡ reachTable ⌝ }
     requires { ⌜ at ≤ length (now line) ⌝ }
     ensures { λ r. ⌜ r ≡ at + fractionSize (drop at (now (line .entry))) ⌝ }
@@ -376,22 +376,22 @@ fn fraction_end(reach: &[u8; 256], line: &[u8], at: usize) -> usize
     if !is_digit(line[at + 1]) {
         return at;
     }
-    spelling::run_end(reach, line, at + 1, 3)
+    spelling::run_end(reach, line, at + 1, 2)
 }
 
 // Where a number's digits and fraction end.
-fn digits_end(reach: &[u8; 256], line: &[u8], at: usize) -> usize
+fn digits_end(reach: &[u8; 768], line: &[u8], at: usize) -> usize
     requires { ⌜ now reach ≡ reachTable ⌝ }
     requires { ⌜ at ≤ length (now line) ⌝ }
     ensures { λ r. ⌜ r ≡ at + digitsSize (drop at (now (line .entry))) ⌝ }
 {
     if begins_at(line, at, b"0x") {
-        return spelling::run_end(reach, line, at + 2, 2);
+        return spelling::run_end(reach, line, at + 2, 1);
     }
     if begins_at(line, at, b"0X") {
-        return spelling::run_end(reach, line, at + 2, 2);
+        return spelling::run_end(reach, line, at + 2, 1);
     }
-    let end = spelling::run_end(reach, line, at, 3);
+    let end = spelling::run_end(reach, line, at, 2);
     fraction_end(reach, line, end)
 }
 
@@ -416,7 +416,7 @@ fn suffix_size(line: &[u8], at: usize) -> usize
 }
 
 // The number at `at`.
-pub fn scan_number(reach: &[u8; 256], line: &[u8], at: usize) -> Number
+pub fn scan_number(reach: &[u8; 768], line: &[u8], at: usize) -> Number
     requires { ⌜ now reach ≡ reachTable ⌝ }
     requires { ⌜ at ≤ length (now line) ⌝ }
     ensures { λ r. ⌜ numberOf r ≡ scanNumber (drop at (now (line .entry))) ⌝ }
@@ -430,7 +430,7 @@ pub fn scan_number(reach: &[u8; 256], line: &[u8], at: usize) -> Number
 }
 
 // A number, with its suffix.
-fn number_cut(reach: &[u8; 256], line: &[u8], at: usize) -> Cut
+fn number_cut(reach: &[u8; 768], line: &[u8], at: usize) -> Cut
     requires { ⌜ now reach ≡ reachTable ⌝ }
     requires { ⌜ at ≤ length (now line) ⌝ }
     ensures { λ r. ⌜ cutOf r ≡ numberCut (drop at (now (line .entry))) ⌝ }
@@ -440,13 +440,13 @@ fn number_cut(reach: &[u8; 256], line: &[u8], at: usize) -> Cut
 }
 
 // A word: letters, digits, `_`; its kind only where it is asked for.
-fn word_cut(reach: &[u8; 256], keywords: &[u8; 539], line: &[u8], at: usize, named: bool) -> Cut
+fn word_cut(reach: &[u8; 768], keywords: &[u8; 539], line: &[u8], at: usize, named: bool) -> Cut
     requires { ⌜ now reach ≡ reachTable ⌝ }
     requires { ⌜ now keywords ≡ keywordTable ⌝ }
     requires { ⌜ at ≤ length (now line) ⌝ }
     ensures { λ r. ⌜ cutOf r ≡ cutNamed named (wordCut (drop at (now (line .entry)))) ⌝ }
 {
-    let end = spelling::run_end(reach, line, at, 1);
+    let end = spelling::run_end(reach, line, at, 0);
     if named {
         let kind = spelling::word_kind(keywords, &line[at..end]);
         return Cut::Token(kind, end - at);
@@ -455,7 +455,7 @@ fn word_cut(reach: &[u8; 256], keywords: &[u8; 539], line: &[u8], at: usize, nam
 }
 
 // What a letter begins: a byte literal or a word.
-fn letter_cut(reach: &[u8; 256], keywords: &[u8; 539], line: &[u8], at: usize, named: bool) -> Cut
+fn letter_cut(reach: &[u8; 768], keywords: &[u8; 539], line: &[u8], at: usize, named: bool) -> Cut
     requires { ⌜ now reach ≡ reachTable ⌝ }
     requires { ⌜ now keywords ≡ keywordTable ⌝ }
     requires { ⌜ at ≤ length (now line) ⌝ }
@@ -501,7 +501,7 @@ fn sign_or_comment(index: &[u8; 256], signs: &[u8; 451], line: &[u8], at: usize)
 // The cut at `at`, by the class of the byte there. The tables are lent.
 pub fn cut_by_class(
     class: &[u8; 256],
-    reach: &[u8; 256],
+    reach: &[u8; 768],
     index: &[u8; 256],
     signs: &[u8; 451],
     keywords: &[u8; 539],
@@ -531,7 +531,7 @@ pub fn cut_by_class(
 // The same. The frequent classes stand apart, so that the loop over a line has them in its own code; the others are called for.
 pub fn next_token(
     class: &[u8; 256],
-    reach: &[u8; 256],
+    reach: &[u8; 768],
     index: &[u8; 256],
     signs: &[u8; 451],
     keywords: &[u8; 539],

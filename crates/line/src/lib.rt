@@ -289,7 +289,7 @@ pub enum LineCuts {
 // A pass that does not write asks for no kinds of words.
 pub fn cut_line(
     class: &[u8; 256],
-    reach: &[u8; 256],
+    reach: &[u8; 768],
     index: &[u8; 256],
     signs: &[u8; 451],
     keywords: &[u8; 539],
@@ -384,7 +384,7 @@ pub enum LineRead {
 // A line whose levels are known: what stands at its start, its cuts, and the Newline.
 fn cut_after(
     class: &[u8; 256],
-    reach: &[u8; 256],
+    reach: &[u8; 768],
     index: &[u8; 256],
     signs: &[u8; 451],
     keywords: &[u8; 539],
@@ -451,7 +451,7 @@ fn cut_after(
 // One line from the state before it; `widths` holds the open levels and then those after the line.
 pub fn read_line(
     class: &[u8; 256],
-    reach: &[u8; 256],
+    reach: &[u8; 768],
     index: &[u8; 256],
     signs: &[u8; 451],
     keywords: &[u8; 539],

@@ -155,7 +155,7 @@ pub enum Step {
 // The line at `at` of a text that begins at byte `base` of the whole: where the pass writes, its record m and its tokens from k on.
 pub fn next_line(
     class: &[u8; 256],
-    reach: &[u8; 256],
+    reach: &[u8; 768],
     index: &[u8; 256],
     signs: &[u8; 451],
     keywords: &[u8; 539],
@@ -209,7 +209,7 @@ pub fn next_line(
 // One pass over the lines of a text: it counts, and where it writes, it stores the records.
 pub fn pass_lines(
     class: &[u8; 256],
-    reach: &[u8; 256],
+    reach: &[u8; 768],
     index: &[u8; 256],
     signs: &[u8; 451],
     keywords: &[u8; 539],
@@ -316,7 +316,7 @@ pub enum ReadAnswer {
 // The records of a text that was counted, where both buffers hold them.
 fn store_records(
     class: &[u8; 256],
-    reach: &[u8; 256],
+    reach: &[u8; 768],
     index: &[u8; 256],
     signs: &[u8; 451],
     keywords: &[u8; 539],

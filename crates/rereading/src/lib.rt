@@ -123,7 +123,7 @@ pub enum Reread {
 // The lines of an edited text read again from line i on, which starts at byte `base`, up to the stop rule: nothing is written.
 pub fn reread_lines(
     class: &[u8; 256],
-    reach: &[u8; 256],
+    reach: &[u8; 768],
     index: &[u8; 256],
     signs: &[u8; 451],
     keywords: &[u8; 539],
@@ -197,7 +197,7 @@ pub fn reread_lines(
 // on; the state after them.
 pub fn rewrite_lines(
     class: &[u8; 256],
-    reach: &[u8; 256],
+    reach: &[u8; 768],
     index: &[u8; 256],
     signs: &[u8; 451],
     keywords: &[u8; 539],

@@ -1,11 +1,10 @@
 -- The class of each byte, and the runs that it stands in, as tables.
 -- Assumes nothing.
-use Prim.Native.Nat.{ℕ}
+use Prim.Native.Nat.{ℕ, zero, suc, _/_, _%_}
 use mathlib.Core.Bool.{Bool, not}
 use mathlib.Core.List.{List}
-use lib.Dec.{leb}
 use Rattle.laws.specs.Blocks.{table}
-use Rattle.rules.specs.Lists.{if_then_else_}
+use Rattle.rules.specs.Lists.{bit}
 use Rattle.rules.specs.Tables.{classOf}
 use Rattle.rules.specs.Cut.{inDecimal, inHex, inWord}
 
@@ -13,16 +12,15 @@ use Rattle.rules.specs.Cut.{inDecimal, inHex, inWord}
 unfoldable pub classTable : List ℕ
 classTable = table classOf 0 256
 
--- 3 in decimal, hexadecimal and word, 2 in hexadecimal and word, 1 in word, 0 in none
-unfoldable pub reachOf : ℕ → ℕ
-reachOf b = if inDecimal b then 3 else if inHex b then 2 else if inWord b then 1 else 0
+-- a byte of the run `which`: 0 a word, 1 hexadecimal and 2 decimal digits, each with `_`
+unfoldable pub reaches : (which b : ℕ) → Bool
+reaches zero b = inWord b
+reaches (suc zero) b = inHex b
+reaches (suc (suc n)) b = inDecimal b
 
+abbrev pub misses : (which b : ℕ) → Bool
+misses which b = not (reaches which b)
+
+-- whether a byte ends a run, 1 or 0: the bytes 0 to 255 for each of the three runs
 unfoldable pub reachTable : List ℕ
-reachTable = table reachOf 0 256
-
--- a byte of a run that takes this reach and every larger one
-unfoldable pub reaches : (least b : ℕ) → Bool
-reaches least b = leb least (reachOf b)
-
-abbrev pub misses : (least b : ℕ) → Bool
-misses least b = not (reaches least b)
+reachTable = table (λ i. bit (misses (i / 256) (i % 256))) 0 768

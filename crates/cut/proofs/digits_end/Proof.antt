@@ -27,7 +27,7 @@ run-end-requires c κs =
     let b = c .before in
     let s = b .before .before .before in
     let r = drop (s .args .at) (s .args .line .now) in
-    (s .pre .0, omega (arith, begins-le (ascii "0x") r (sym (b .begins-at .ensures) ∙ c .if1 .taken), length-drop (s .args .at) (s .args .line .now)))
+    (s .pre .0, (omega (arith, begins-le (ascii "0x") r (sym (b .begins-at .ensures) ∙ c .if1 .taken), length-drop (s .args .at) (s .args .line .now)), omega arith))
 
 returns : tie.Need-returns
 returns c =
@@ -49,7 +49,7 @@ run-end-requires-2 c κs =
     let b = c .before in
     let s = b .before .before .before .before .before .before in
     let r = drop (s .args .at) (s .args .line .now) in
-    (s .pre .0, omega (arith, begins-le (ascii "0X") r (sym (b .begins-at2 .ensures) ∙ c .if2 .taken), length-drop (s .args .at) (s .args .line .now)))
+    (s .pre .0, (omega (arith, begins-le (ascii "0X") r (sym (b .begins-at2 .ensures) ∙ c .if2 .taken), length-drop (s .args .at) (s .args .line .now)), omega arith))
 
 returns-2 : tie.Need-returns-2
 returns-2 c =
@@ -59,12 +59,14 @@ returns-2 c =
     omega (arith, c .run-end2 .ensures, hex-capital (a .line .now) (a .at) (sym (x .before .begins-at .ensures) ∙ x .if1 .left) (sym (d .begins-at2 .ensures) ∙ c .before .if2 .taken))
 
 run-end-requires-3 : tie.Need-run-end-requires-3
-run-end-requires-3 c κs = c .before .before .before .before .before .before .before .pre
+run-end-requires-3 c κs =
+    let p = c .before .before .before .before .before .before .before .pre in
+    (p .0, (p .1, omega arith))
 
 fraction-end-requires : tie.Need-fraction-end-requires
 fraction-end-requires c κs =
     let s = c .before .before .before .before .before .before .before .before in
-    (s .pre .0, omega (arith, c .run-end3 .ensures, run-inside (reaches 3) (s .args .line .now) (s .args .at) (s .pre .1)))
+    (s .pre .0, omega (arith, c .run-end3 .ensures, run-inside (reaches 2) (s .args .line .now) (s .args .at) (s .pre .1)))
 
 returns-3 : tie.Need-returns-3
 returns-3 c =

@@ -43,7 +43,7 @@ add-run-end : tie.Need-add-run-end
 add-run-end c = search needs
 
 run-end-requires : tie.Need-run-end-requires
-run-end-requires c κs = (c .before .before .before .before .before .before .before .pre .0, omega arith)
+run-end-requires c κs = (c .before .before .before .before .before .before .before .pre .0, (omega arith, omega arith))
 
 returns-4 : tie.Need-returns-4
 returns-4 c =

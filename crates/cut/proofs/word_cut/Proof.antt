@@ -26,7 +26,7 @@ part-word-kind-start c = omega (arith, c .before .run-end .ensures)
 part-word-kind-end : tie.Need-part-word-kind-end
 part-word-kind-end c =
     let a = c .before .before .before .args in
-    omega (arith, c .before .run-end .ensures, run-inside (reaches 1) (a .line .now) (a .at) (c .before .before .before .pre .1 .1))
+    omega (arith, c .before .run-end .ensures, run-inside (reaches 0) (a .line .now) (a .at) (c .before .before .before .pre .1 .1))
 
 word-kind-requires : tie.Need-word-kind-requires
 word-kind-requires c κs = search needs

@@ -50,7 +50,7 @@ bits : (c : tie.After-miss4) → (c .before .before .before .before .before .bef
     × (c .miss4 .result ≤ 1)
 bits c =
     let a = c .before .before .before .before .before .before .before .before .before .args in
-    let small : (i : ℕ) → bit (misses (a .least) (getD (a .line .now) i 0)) ≤ 1 = λ i. bit-le (misses (a .least) (getD (a .line .now) i 0)) in (
+    let small : (i : ℕ) → bit (misses (a .which) (getD (a .line .now) i 0)) ≤ 1 = λ i. bit-le (misses (a .which) (getD (a .line .now) i 0)) in (
       omega (arith, c .before .before .before .before .before .before .miss .ensures, small (a .at)),
       omega (arith, c .before .before .before .before .miss2 .ensures, small (a .at + 1)),
       omega (arith, c .before .before .miss3 .ensures, small (a .at + 2)),
@@ -85,7 +85,7 @@ returns c =
       c .before .before .before .before .miss2 .ensures,
       c .before .before .miss3 .ensures,
       c .miss4 .ensures,
-      four-bits (misses (a .least)) (a .line .now) (a .at) (k .before .before .before .pre .1),
+      four-bits (misses (a .which)) (a .line .now) (a .at) (k .before .before .before .pre .1 .0),
     )
 
 pub miss-mask-spec : {M : Type 1} → statement M

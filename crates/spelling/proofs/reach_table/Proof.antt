@@ -2,12 +2,12 @@
 -- Assumes nothing.
 use mathlib.Core.Path.{refl}
 use Rattle.rules.specs.Cut.{cutRules}
-use Rattle.spelling.specs.Bytes.{reachOf, reachTable}
+use Rattle.spelling.specs.Bytes.{reachTable, reaches}
 use Rattle.spelling.proofs.reach_table.Statement.{statement}
 use Rattle.spelling.proofs.reach_table.Tie as tie
 
 returns : tie.Need-returns
-unfolding reachTable reachOf cutRules
+unfolding reachTable reaches cutRules
 returns c = refl
 
 pub reach-table-spec : {M : Type 1} → statement M

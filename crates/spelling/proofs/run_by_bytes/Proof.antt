@@ -12,30 +12,27 @@ use Rattle.spelling.proofs.run_by_bytes.Statement.{statement}
 use Rattle.spelling.proofs.run_by_bytes.Tie as tie
 
 abbrev Inv-loop : tie.InvT-loop
-Inv-loop table line at least i₀ i = (i ≤ length line) × (i + run (reaches least) (drop i line) ≡ at + run (reaches least) (drop at line))
+Inv-loop table line at which i₀ i = (i ≤ length line) × (i + run (reaches which) (drop i line) ≡ at + run (reaches which) (drop at line))
 
 abbrev μ-loop : tie.MeasureT-loop
-μ-loop table line at least i₀ i = length line - i
+μ-loop table line at which i₀ i = length line - i
 
 loop-holds : tie.Need-loop-holds Inv-loop μ-loop
 loop-holds c = (omega arith, refl)
 
-shared-slice-read-b : tie.Need-shared-slice-read-b Inv-loop μ-loop
-shared-slice-read-b c = omega arith
+shared-slice-read-miss : tie.Need-shared-slice-read-miss Inv-loop μ-loop
+shared-slice-read-miss c = omega arith
 
-cast-if1 : tie.Need-cast-if1 Inv-loop μ-loop
-cast-if1 c = omega (arith, c .shared-slice-known .given (c .before .before .loop .i))
-
-element-copy-out-if1 : tie.Need-element-copy-out-if1 Inv-loop μ-loop
-element-copy-out-if1 c = omega (arith, c .shared-slice-known .given (c .before .before .loop .i))
+miss-requires : tie.Need-miss-requires Inv-loop μ-loop
+miss-requires c κs =
+    let p = c .before .before .before .before .pre in
+    (p .0, p .1 .1)
 
 returns : tie.Need-returns Inv-loop μ-loop
 returns c =
     let l = c .before .before .before .before in
-    run-stops _ _ _ (l .before .pre .0) (c .before .before .before .loop-test .taken)
-    (omega (arith, c .before .before .shared-slice-known .given (l .loop .i)))
-    (l .loop .inv .1)
-    (c .if1 .taken)
+    let a = l .before .before .args in
+    run-stops (reaches (a .which)) (a .line .now) (l .loop .i) (c .before .before .before .loop-test .taken) (c .before .miss .ensures) (l .loop .inv .1) (c .if1 .taken)
 
 add-i : tie.Need-add-i Inv-loop μ-loop
 add-i c = omega arith
@@ -46,12 +43,14 @@ loop-less c = omega arith
 loop-again : tie.Need-loop-again Inv-loop μ-loop
 loop-again c =
     let l = c .before .before .before .before in
-    (omega arith, run-goes _ _ _ (l .before .pre .0) (c .before .before .before .loop-test .taken) (omega (arith, c .before .before .shared-slice-known .given (l .loop .i))) (l .loop .inv .1) (c .if1 .left))
+    let a = l .before .before .args in
+    (omega arith, run-goes (reaches (a .which)) (a .line .now) (l .loop .i) (c .before .before .before .loop-test .taken) (c .before .miss .ensures) (l .loop .inv .1) (c .if1 .left))
 
 returns-2 : tie.Need-returns-2 Inv-loop μ-loop
 returns-2 c =
     let l = c .before in
-    omega (arith, run-end (reaches (l .before .args .least)) (l .before .args .line .now) (l .loop .i) (c .loop-test .left))
+    let a = l .before .before .args in
+    omega (arith, run-end (reaches (a .which)) (a .line .now) (l .loop .i) (c .loop-test .left))
 
 pub run-by-bytes-spec : {M : Type 1} → statement M
 run-by-bytes-spec =
@@ -60,9 +59,8 @@ run-by-bytes-spec =
     Inv-loop
     μ-loop
     loop-holds
-    shared-slice-read-b
-    cast-if1
-    element-copy-out-if1
+    shared-slice-read-miss
+    miss-requires
     returns
     add-i
     loop-less

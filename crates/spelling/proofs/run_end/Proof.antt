@@ -13,10 +13,10 @@ use Rattle.spelling.proofs.run_end.Statement.{statement}
 use Rattle.spelling.proofs.run_end.Tie as tie
 
 abbrev Inv-loop : tie.InvT-loop
-Inv-loop table line at least i₀ i = (i ≤ length line) × (i + run (reaches least) (drop i line) ≡ at + run (reaches least) (drop at line))
+Inv-loop table line at which i₀ i = (i ≤ length line) × (i + run (reaches which) (drop i line) ≡ at + run (reaches which) (drop at line))
 
 abbrev μ-loop : tie.MeasureT-loop
-μ-loop table line at least i₀ i = length line - i
+μ-loop table line at which i₀ i = length line - i
 
 loop-holds : tie.Need-loop-holds Inv-loop μ-loop
 loop-holds c = (omega arith, refl)
@@ -25,15 +25,17 @@ sub-loop : tie.Need-sub-loop Inv-loop μ-loop
 sub-loop c = omega arith
 
 miss-mask-requires : tie.Need-miss-mask-requires Inv-loop μ-loop
-miss-mask-requires c κs = (c .before .before .before .pre .0, omega arith)
+miss-mask-requires c κs =
+    let p = c .before .before .before .pre in
+    (p .0, (omega arith, p .1 .1))
 
 -- the run ends at the lowest bit of the mask
 found : (c : tie.Then1 Inv-loop μ-loop) → let a = c .before .before .before .before .before .args in
-    c .before .before .before .loop .i + trailingZeros 32 (c .before .miss-mask .result) ≡ a .at + run (reaches (a .least)) (drop (a .at) (a .line .now))
+    c .before .before .before .loop .i + trailingZeros 32 (c .before .miss-mask .result) ≡ a .at + run (reaches (a .which)) (drop (a .at) (a .line .now))
 found c =
     let l = c .before .before .before in
     let a = l .before .before .args in
-    run-found (misses (a .least)) (reaches (a .least)) (missed (a .least)) (a .line .now) (l .loop .i) 4 (c .before .miss-mask .ensures) (l .loop .inv .1) (omega arith) (c .if1 .taken)
+    run-found (misses (a .which)) (reaches (a .which)) (missed (a .which)) (a .line .now) (l .loop .i) 4 (c .before .miss-mask .ensures) (l .loop .inv .1) (omega arith) (c .if1 .taken)
 
 cast-result : tie.Need-cast-result Inv-loop μ-loop
 cast-result c = omega (arith, trailing-le 32 (c .before .miss-mask .result))
@@ -42,7 +44,7 @@ add-result : tie.Need-add-result Inv-loop μ-loop
 add-result c =
     let s = c .before .before .before .before .before in
     let a = s .args in
-    omega (arith, found c, run-inside (reaches (a .least)) (a .line .now) (a .at) (s .pre .1))
+    omega (arith, found c, run-inside (reaches (a .which)) (a .line .now) (a .at) (s .pre .1 .0))
 
 returns : tie.Need-returns Inv-loop μ-loop
 returns c = found c
@@ -57,10 +59,12 @@ loop-again : tie.Need-loop-again Inv-loop μ-loop
 loop-again c =
     let l = c .before .before .before in
     let a = l .before .before .args in
-    (omega arith, run-left (misses (a .least)) (reaches (a .least)) (missed (a .least)) (a .line .now) (l .loop .i) 4 (c .before .miss-mask .ensures) (l .loop .inv .1) (omega arith) (c .if1 .left))
+    (omega arith, run-left (misses (a .which)) (reaches (a .which)) (missed (a .which)) (a .line .now) (l .loop .i) 4 (c .before .miss-mask .ensures) (l .loop .inv .1) (omega arith) (c .if1 .left))
 
 run-by-bytes-requires : tie.Need-run-by-bytes-requires Inv-loop μ-loop
-run-by-bytes-requires c κs = (c .before .before .before .pre .0, omega arith)
+run-by-bytes-requires c κs =
+    let p = c .before .before .before .pre in
+    (p .0, (omega arith, p .1 .1))
 
 returns-2 : tie.Need-returns-2 Inv-loop μ-loop
 returns-2 c = c .run-by-bytes .ensures ∙ c .before .before .loop .inv .1
