@@ -2,37 +2,16 @@
 -- Assumes nothing.
 use Prim.Native.Nat.{ℕ, zero, suc, _+_, _-_, _*_, _≤_, _<_}
 use mathlib.Core.Path.{_≡_, refl, sym, ap, subst, _∙_}
-use mathlib.Core.List.{List, [], _∷_, _++_, append-assoc, append-nil}
+use mathlib.Core.List.{List, [], _∷_, _++_, append-nil}
 use mathlib.Core.Logic.{_⊎_, inl, inr, ⊎-elim}
 use native.Mathlib.Omega.{arith}
-use native.Mathlib.Nat.{add-zero, zero-add, add-suc, suc-add, add-assoc, eq-zero-or-pos, mul-le-mul-left}
+use native.Mathlib.Nat.{add-zero, zero-add, add-assoc, eq-zero-or-pos, mul-le-mul-left}
 use lib.ListN.{length, getD, set}
 use lib.Seq.{sets, set-getD, getD-set-other}
 use Rattle.laws.specs.Blocks.{blocks}
-use Rattle.laws.proofs.Sets.{sets-append, sets-before, blocks-length, getD-sets-above, getD-sets-below}
+use Rattle.laws.proofs.Sets.{sets-append, sets-before, blocks-same, blocks-from, blocks-append, blocks-length, getD-sets-above, getD-sets-below}
 use Rattle.moving.specs.Moved.{wordValues, distance, shifted, words, movedToken, movedLine}
 use Rattle.moving.proofs.Words.{length-words, words-at, words-same, words-append, getD-sets-in, sets-again, sets-words}
-
--- Blocks.
-
-blocks-same : (f h : ℕ → List ℕ) (i n : ℕ) → ((j : ℕ) → j < i + n → f j ≡ h j) → blocks f i n ≡ blocks h i n
-blocks-same f h i zero e = refl
-blocks-same f h i (suc n) e = ap (λ (x : List ℕ). x ++ blocks f (suc i) n) (e i (omega arith)) ∙ ap (λ (x : List ℕ). h i ++ x) (blocks-same f h (suc i) n (λ j v. e j (omega arith)))
-
--- those from j on, counted from there
-blocks-from : (f : ℕ → List ℕ) (j n : ℕ) → blocks (λ i. f (j + i)) 0 n ≡ blocks f j n
-blocks-from f j n = go 0 n ∙ ap (λ (k : ℕ). blocks f k n) (add-zero j)
-  where
-    go : (i n : ℕ) → blocks (λ i. f (j + i)) i n ≡ blocks f (j + i) n
-    go i zero = refl
-    go i (suc n) = ap (λ (x : List ℕ). f (j + i) ++ x) (go (suc i) n ∙ ap (λ (k : ℕ). blocks f k n) (add-suc j i))
-
-blocks-append : (f : ℕ → List ℕ) (i m n : ℕ) → blocks f i (m + n) ≡ blocks f i m ++ blocks f (i + m) n
-blocks-append f i zero n = rw (zero-add, add-zero)
-blocks-append f i (suc m) n =
-    ap (blocks f i) (suc-add m n)
-    ∙ ap (λ (x : List ℕ). f i ++ x) (blocks-append f (suc i) m n ∙ ap (λ (k : ℕ). blocks f (suc i) m ++ blocks f k n) (suc-add i m ∙ sym (add-suc i m)))
-    ∙ sym (append-assoc (f i) (blocks f (suc i) m) (blocks f (i + suc m) n))
 
 -- a record is w words, made of the w words at its place
 pub record Width (w : ℕ) (g : List ℕ → ℕ → List ℕ) : Type 0 where
