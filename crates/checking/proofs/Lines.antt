@@ -3,14 +3,14 @@
 use Prim.Native.Nat.{ℕ, _+_, _*_, _≤_, _<_}
 use mathlib.Core.Path.{_≡_, refl, sym, ap, subst, _∙_}
 use mathlib.Core.Bool.{Bool, true, false, _&&_}
-use mathlib.Core.List.{List, [], _∷_}
+use mathlib.Core.List.{List, [], _∷_, _++_}
 use native.Mathlib.Omega.{arith}
 use lib.ListN.{length, take, drop, drop-of-length-le}
 use lib.Seq.{length-take-le}
 use Rattle.rules.specs.Lists.{begins}
 use Rattle.rules.specs.Line as rules-line
-use Rattle.rules.specs.Line.{Token, dedents, LineReply, lineReads, lineHalts, readLine}
-use Rattle.rules.specs.Reading.{Line, linesOf, content, readFrom, lineAt, sizeAt}
+use Rattle.rules.specs.Line.{initial, Token, dedents, LineReply, lineReads, lineHalts, readLine}
+use Rattle.rules.specs.Reading.{Line, linesOf, content, Entry, entry, readFrom, lineAt, sizeAt}
 use Rattle.rules.specs.Replies.{barge}
 use Rattle.rules.specs.Records.{lineNeed, tokenNeed, lineRecord, tokenWords, header, readLines}
 use Rattle.rules.specs.Page.{isRecorded}
@@ -18,7 +18,7 @@ use Rattle.rules.proofs.LineLaws.{firstSize-le, lines-at, content-first}
 use Rattle.line.specs.States.{stateOf}
 use Rattle.line.specs.LineCuts.{tokensIn, counted}
 use Rattle.line.specs.declared.State.{State}
-use Rattle.reading.proofs.Lines.{PassTo, pass-start, next-pass}
+use Rattle.lines.proofs.Lines.{PassTo, pass-start, next-pass}
 use Rattle.checking.specs.Same.{agrees, differs, agreedIf, agreedOf, LevelsWithin}
 use Rattle.checking.specs.declared.SameLine.{SameLine}
 use Rattle.checking.specs.declared.SameLine.the-variants.{Agrees, Differs}
@@ -47,12 +47,13 @@ module _ (t lines tokens : List ℕ) (count total : ℕ) where
 
   -- come to byte p, line m and token k, in the state s with these widths
   pub record AgreesTo (widths : List ℕ) (p m k : ℕ) (s : State) : Type 0 where
-    pub pass : PassTo t false [] [] [] [] widths p m k s
+    pub es : List Entry
+    pub pass : PassTo t initial es widths p m k s
     pub left : rest p m k (stateOf s widths) (linesOf (drop p t)) ≡ answer
 
   pub agrees-start : length lines ≡ lineNeed count → length tokens ≡ tokenNeed total → (widths : List ℕ) → length widths ≡ 16
       → AgreesTo widths 0 0 0 (record { depth = 0; arrow = false; levels = 0 })
-  agrees-start wide long widths h = record { pass = pass-start t false [] [] widths h; left = sym (whole-same lines tokens count total t wide long) }
+  agrees-start wide long widths h = record { es = []; pass = pass-start t widths (record { depth = 0; arrow = false; levels = 0 }) (omega arith) h; left = sym (whole-same lines tokens count total t wide long) }
 
 module _ {t lines tokens : List ℕ} {count total : ℕ} {widths : List ℕ} {p m k : ℕ} {s : State} (v : AgreesTo t lines tokens count total widths p m k s) where
   abbrev goal : Bool
@@ -108,7 +109,8 @@ module _ {t lines tokens : List ℕ} {count total : ℕ} {widths : List ℕ} {p 
             let turn = turn-same lines tokens count total p m k z y line others (a .ts) (read-as (lineReads (a .ts) y) (a .is)) er same in
             let byte : q ≡ p + length line = omega (arith, size-is) in
             record {
-              pass = next-pass t false [] [] (v .pass) h (a .ts) s′ [] [] widths′ n q (ap (readLine 16 z) (sym here) ∙ a .is) (a .size) at refl refl (subst LevelsWithin i few) wide;
+              es = v .es ++ (entry z (sizeAt t p) (a .ts) ∷ []);
+              pass = next-pass (v .pass) h (a .ts) s′ widths′ n q (ap (readLine 16 z) (sym here) ∙ a .is) (a .size) at (subst LevelsWithin i few) wide;
               left = (λ j. left-of (byte j) (m + 1) (k + a .size j) y (linesOf (drop (at j) t))) ∙ sym turn ∙ left-line;
             }
 

@@ -287,7 +287,7 @@ fn same_widths(lines: &[u32], at: usize, widths: &[u32], levels: usize) -> bool
     }
     let mut i: usize = 0;
     while i < 16 {
-        if reading::width_at(widths, levels, i) != lines[at + i] {
+        if lines::width_at(widths, levels, i) != lines[at + i] {
             return false;
         }
         i += 1;
@@ -376,7 +376,7 @@ fn lines_agree(
         if !same_line_record(lines, m, p as u32, k as u32, s, widths) {
             return false;
         }
-        let end = reading::line_end(text, p);
+        let end = lines::line_end(text, p);
         match line_agrees(
             class,
             reach,
@@ -395,7 +395,7 @@ fn lines_agree(
                 s = next;
                 k += n;
                 m += 1;
-                p = reading::past_lf(text, end);
+                p = lines::past_lf(text, end);
             }
             SameLine::Differs => {
                 return false;

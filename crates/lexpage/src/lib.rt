@@ -44,7 +44,7 @@ fn put_three(reply: &mut [u64; 16], a: u64, b: u64, c: u64) -> u64
 }
 
 // Refusal 3 with a failure's record.
-fn put_failure(reply: &mut [u64; 16], f: reading::FailureRecord) -> u64
+fn put_failure(reply: &mut [u64; 16], f: lines::FailureRecord) -> u64
     ensures { λ r. ⌜ r ≡ 9 ⌝ }
     ensures { λ _. ⌜ now (reply .exit) ≡ sets (now (reply .entry)) 0 (3 ∷ failureNumbers f) ⌝ }
 {

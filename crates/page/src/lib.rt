@@ -41,7 +41,7 @@ pub enum EditAnswer {
     Edited(usize, usize, usize, usize),
     TooLong(usize),
     Malformed(usize),
-    Fails(reading::FailureRecord),
+    Fails(lines::FailureRecord),
     TooDeep(usize),
     ShortText(usize),
     ShortSpare(usize),

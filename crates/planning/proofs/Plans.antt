@@ -31,8 +31,10 @@ use Rattle.rereading.specs.Words.{stateIn}
 use Rattle.rereading.specs.Rereads.{Old, Lines, RereadIs}
 use Rattle.rereading.specs.declared.Reread.{Reread}
 use Rattle.rereading.specs.declared.Reread.the-variants.{Stops, Ends, Fails, TooDeep}
-use Rattle.reading.specs.declared.FailureRecord.{FailureRecord}
+use Rattle.lines.specs.declared.FailureRecord.{FailureRecord}
+use Rattle.line.specs.declared.State as line-state
 use Rattle.rereading.proofs.Words.{state-words}
+use Rattle.rereading.proofs.Rereads.{fails-whole, deep-whole}
 use Rattle.rereading.proofs.OldLines.{start-is, first-is, state-is, levels-at}
 use Rattle.planning.specs.Starts.{lineWord, stateFrom, isUsable}
 use Rattle.planning.specs.Plans.{linesAfter, tokensAfter, roomed, beginLine, stopPlan, stopAnswer, endPlan, newLines, plannedLines, ReadsAs, Planned, Mends, recordOut, OnPaper, PlanIs}
@@ -213,7 +215,7 @@ module _ {pg : Page} {ed : Edit} (ok : Editable pg ed) where
           }
 
       -- what reading again knows of the page
-      pub old-of : Old (drop (lineWord lines i 0) u) lines (lineWord lines i 0) i m b (a + length w) (stateFrom lines i)
+      pub old-of : Old (drop (lineWord lines i 0) u) lines (lineWord lines i 0) i m i b (a + length w) (stateFrom lines i)
       old-of =
           let bi : lineWord lines i 0 ≡ byteSum (take (countLF (take a t)) es) = start-of i within ∙ ap (λ (x : ℕ). byteSum (take x es)) e in
           record {
@@ -230,6 +232,7 @@ module _ {pg : Page} {ed : Edit} (ok : Editable pg ed) where
             b-is = refl;
             kept-is = refl;
             i-is = e;
+            from-is = refl;
             base-is = bi;
             state-is = state-of i within ∙ ap (stateAt es end) e;
             rest-is = ap (λ (x : ℕ). drop x u) bi;
@@ -365,7 +368,7 @@ module _ {pg : Page} {ed : Edit} (ok : Editable pg ed) where
 
     -- what reading again gives, on paper
     abbrev pub Gives : Reread → Type 0
-    Gives = RereadIs (drop base u) lines base i m b (a + length w) z
+    Gives = RereadIs (drop base u) lines base i m i b (a + length w) z
 
     -- how much was read again
     lines-small : (c x q : ℕ) (l : Lines (drop base u) z c x q) → (c ≤ q) × (x ≤ 16 + 2 * q) × (x + length (l .after .widths) ≤ 16 + 2 * q)
@@ -392,10 +395,10 @@ module _ {pg : Page} {ed : Edit} (ok : Editable pg ed) where
         let v = lines-small c x q (r .0) in
         (r .1 .1 .0, omega (arith, v .0, r .1 .0, rest-small), omega (arith, v .1, r .1 .0, rest-small), omega (arith, r .1 .0, rest-small))
 
-    pub end-small : {c x g : ℕ} → Gives (Ends c x g) → (c ≤ 1_048_576) × (x + g ≤ 2_500_000)
-    end-small {c} {x} r =
+    pub end-small : {c x : ℕ} (s : line-state.State) → Gives (Ends c x s) → (c ≤ 1_048_576) × (x + s .levels ≤ 2_500_000)
+    end-small {c} {x} s r =
         let v = lines-small c x (length (drop base u)) (r .0) in
-        (omega (arith, v .0, rest-small), omega (arith, v .2, r .1, rest-small))
+        (omega (arith, v .0, rest-small), omega (arith, v .2, r .1 .1, rest-small))
 
     stop-planned : (c x q j : ℕ) (l : Lines (drop base u) z c x q) → q < length (drop base u) → j ≤ m → lineWord lines j 1 ≤ k → lineWord lines j 0 ≤ 4_294_967_295
         → Planned u lines m k (stopPlan lines i base c x q j)
@@ -479,10 +482,10 @@ module _ {pg : Page} {ed : Edit} (ok : Editable pg ed) where
           some = omega arith;
         }
 
-    end-mends : (c x g : ℕ) (r : Gives (Ends c x g)) (bh : Behind t (pageRecords pg))
-        → Mends t lines (bh .entries) (bh .end) ed (endPlan lines i base m k n (length u) c x g)
+    end-mends : (c x : ℕ) (s : line-state.State) (r : Gives (Ends c x s)) (bh : Behind t (pageRecords pg))
+        → Mends t lines (bh .entries) (bh .end) ed (endPlan lines i base m k n (length u) c x (s .levels))
     unfolding old-of
-    end-mends c x g r bh =
+    end-mends c x s r bh =
         let o = old-of bh i at-is in
         let v = r .2 o in
         let es : List Entry = bh .entries in
@@ -491,7 +494,7 @@ module _ {pg : Page} {ed : Edit} (ok : Editable pg ed) where
         let le : length (withEnd es end) ≤ m + 1 = omega (arith, length-end es end, m-is bh) in
         let tj : take (m + 1) (withEnd es end) ≡ withEnd es end = take-all (m + 1) (withEnd es end) le in
         let dj : drop (m + 1) (withEnd es end) ≡ [] = drop-of-length-le (withEnd es end) {i = m + 1} le in
-        let nl : newLines true (plannedLines u lines (endPlan lines i base m k n (length u) c x g)) ≡ withEnd (r .0 .es) (r .0 .after) = ap (newLines true) (r .0 .reads-are) in
+        let nl : newLines true (plannedLines u lines (endPlan lines i base m k n (length u) c x (s .levels))) ≡ withEnd (r .0 .es) (r .0 .after) = ap (newLines true) (r .0 .reads-are) in
         record {
           entries = take i es ++ r .0 .es;
           last = r .0 .after;
@@ -506,13 +509,13 @@ module _ {pg : Page} {ed : Edit} (ok : Editable pg ed) where
           new-is = omega (arith, length-drop base u, inside-u, r .0 .bytes, sum-end (r .0 .es) (r .0 .after), ap byteSum nl);
         }
 
-    pub end-plan : {c x g : ℕ} → Gives (Ends c x g) → n ≤ 4_294_967_295
-        → PlanIs pg ed (roomed (endPlan lines i base m k n (length u) c x g) m k (length lines) (length tokens))
-    end-plan {c} {x} {g} r hn =
-        roomed-is (endPlan lines i base m k n (length u) c x g) (end-planned c x g (r .0) (r .1) hn) (end-mends c x g r)
+    pub end-plan : {c x : ℕ} (s : line-state.State) → Gives (Ends c x s) → n ≤ 4_294_967_295
+        → PlanIs pg ed (roomed (endPlan lines i base m k n (length u) c x (s .levels)) m k (length lines) (length tokens))
+    end-plan {c} {x} s r hn =
+        roomed-is (endPlan lines i base m k n (length u) c x (s .levels)) (end-planned c x (s .levels) (r .0) (r .1 .1) hn) (end-mends c x s r)
 
     -- the same, as the code has the rest of the text and the state
-    pub gives : {rest : List ℕ} {y : State} {r q : Reread} → rest ≡ drop base u → y ≡ z → r ≡ q → RereadIs rest lines base i m b (a + length w) y r → Gives q
+    pub gives : {rest : List ℕ} {y : State} {r q : Reread} → rest ≡ drop base u → y ≡ z → r ≡ q → RereadIs rest lines base i m i b (a + length w) y r → Gives q
     gives er ey e h = rw (er, ey, e) at h
 
     halted : (h : Halt) (es : List Entry) → readFrom maxLevels initial (linesOf u) ≡ halts es h → readLines barge u ≡ unread (haltRefusal barge (byteSum es) (suc (length es)) h)
@@ -522,13 +525,13 @@ module _ {pg : Page} {ed : Edit} (ok : Editable pg ed) where
     pub fail-plan : {r : FailureRecord} → Gives (Fails r) → OnPaper pg ed (reading (lexical (recordOut r)))
     unfolding old-of stored haltRefusal
     fail-plan h spare fa =
-        let v = h (old-of (faithful-behind fa) i at-is) in
+        let v = fails-whole (h .1 (old-of (faithful-behind fa) i at-is)) in
         ap (stored (record { text = length text; spare = spare; lines = length lines; tokens = length tokens }) (rereadCount t ed)) (halted (failed (v .1)) (v .0) (v .2))
         ∙ ap (λ (y : FailureRecord). late (reading (lexical (recordOut y)))) (sym (v .3))
 
     pub deep-plan : {l : ℕ} → Gives (TooDeep l) → OnPaper pg ed (reading (atLine 4 l))
     unfolding old-of stored haltRefusal
     deep-plan h spare fa =
-        let v = h (old-of (faithful-behind fa) i at-is) in
+        let v = deep-whole (h .1 (old-of (faithful-behind fa) i at-is)) in
         ap (stored (record { text = length text; spare = spare; lines = length lines; tokens = length tokens }) (rereadCount t ed)) (halted overLimit (v .0) (v .1))
         ∙ ap (λ (y : ℕ). late (reading (atLine 4 y))) (sym (v .2))

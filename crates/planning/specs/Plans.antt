@@ -15,8 +15,7 @@ use Rattle.rules.specs.Records.{withEnd, readLines, Behind}
 use Rattle.rules.specs.Page.{Page, fits, pageText, pageRecords, Faithful}
 use Rattle.rules.specs.StopRule.{Edit, edited, rereadCount}
 use Rattle.rules.specs.Edit.{Outcome, late, stored}
-use Rattle.reading.specs.declared.FailureRecord.{FailureRecord}
-use Rattle.rereading.specs.Rewrites.{readFirst}
+use Rattle.lines.specs.declared.FailureRecord.{FailureRecord}
 use Rattle.planning.specs.Starts.{lineWord, stateFrom, isUsable}
 use Rattle.planning.specs.declared.Plan.{Plan}
 use Rattle.planning.specs.declared.PlanAnswer.{PlanAnswer}
@@ -97,7 +96,7 @@ newLines ends (halts es h) = []
 
 -- the lines of the edited text u that a plan reads again
 abbrev pub plannedLines : (u lines : List ℕ) → Plan → Reading
-plannedLines u lines p = readFirst (p .count) (stateFrom lines (p .i)) (drop (p .base) u)
+plannedLines u lines p = readFrom 16 (stateFrom lines (p .i)) (take (p .count) (linesOf (drop (p .base) u)))
 
 -- they read, in so many tokens and up to this byte
 abbrev pub ReadsAs : Plan → Reading → Type 0

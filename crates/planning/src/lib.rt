@@ -121,7 +121,7 @@ pub struct Plan {
 // A plan; or a refusal: 3, 4, 5 for one of two buffers with its least length, or 7.
 pub enum PlanAnswer {
     Writes(Plan),
-    Fails(reading::FailureRecord),
+    Fails(lines::FailureRecord),
     TooDeep(usize),
     ShortLines(usize),
     ShortTokens(usize),
@@ -254,7 +254,7 @@ fn reread_from(
     requires { ⌜ (i ≤ 1_048_576) × ((i ≤ m) × ((m ≤ 4_294_967_295) × (21 * (m + 1) ≤ length (now lines)))) ⌝ }
     requires { ⌜ (i ≤ lineWord (now lines) i 0) × ((lineWord (now lines) i 2 ≤ lineWord (now lines) i 0) × (lineWord (now lines) i 4 ≤ 16)) ⌝ }
     requires { ⌜ (lineWord (now lines) i 0 ≤ length (now edited)) × ((length (now edited) ≤ 1_048_576) × (b ≤ 4_294_967_295)) ⌝ }
-    ensures { λ r. ⌜ RereadIs (drop (lineWord (now (lines .entry)) i 0) (now (edited .entry))) (now (lines .entry)) (lineWord (now (lines .entry)) i 0) i m b kept (stateFrom (now (lines .entry)) i) r ⌝ }
+    ensures { λ r. ⌜ RereadIs (drop (lineWord (now (lines .entry)) i 0) (now (edited .entry))) (now (lines .entry)) (lineWord (now (lines .entry)) i 0) i m i b kept (stateFrom (now (lines .entry)) i) r ⌝ }
 {
     let class = spelling::class_table();
     let reach = spelling::reach_table();
@@ -264,19 +264,26 @@ fn reread_from(
     let mut widths: [u32; 16] = [0; 16];
     let s = load_state(lines, i, &mut widths);
     let base = lines[21 * i + 0] as usize;
-    rereading::reread_lines(
+    let mut no_lines: [u32; 1] = [0];
+    let mut no_tokens: [u32; 1] = [0];
+    rereading::read_on(
         &class,
         &reach,
         &index,
         &signs,
         &keywords,
         &edited[base..],
-        lines,
         base,
-        i,
+        lines,
         m,
+        i,
         b,
         kept,
+        &mut no_lines,
+        &mut no_tokens,
+        false,
+        i,
+        0,
         &mut widths,
         s,
     )
@@ -320,7 +327,7 @@ pub fn plan_edit(
                 tokens.len(),
             )
         }
-        rereading::Reread::Ends(c, t, levels) => plan_end(
+        rereading::Reread::Ends(c, t, s) => plan_end(
             lines,
             i,
             base,
@@ -330,7 +337,7 @@ pub fn plan_edit(
             edited.len(),
             c,
             t,
-            levels,
+            s.levels,
             tokens.len(),
         ),
         rereading::Reread::Fails(f) => PlanAnswer::Fails(f),

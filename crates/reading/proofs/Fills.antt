@@ -19,11 +19,12 @@ use Rattle.rules.specs.Records.{lineNeed, tokenNeed, withEnd, Records, recordsO
 use Rattle.rules.specs.Read.{Filled, notFilled, filled, filledBy, readInto}
 use Rattle.rules.proofs.RecordLaws.{fresh-sizes}
 use Rattle.rules.proofs.BoundLaws.{Small, fresh-small}
-use Rattle.reading.specs.declared.FailureRecord.{FailureRecord}
+use Rattle.lines.specs.declared.FailureRecord.{FailureRecord}
 use Rattle.reading.specs.declared.Pass.the-variants as pass-variants
 use Rattle.reading.specs.declared.ReadAnswer.{ReadAnswer}
 use Rattle.reading.specs.declared.ReadAnswer.the-variants as answers
-use Rattle.reading.specs.Passes.{recordIn, passOf, linesIn, tokensIn, RoomIn, Counted}
+use Rattle.lines.specs.Steps.{recordIn}
+use Rattle.reading.specs.Passes.{passOf, linesIn, tokensIn, RoomIn, Counted}
 use Rattle.reading.specs.Answers.{readNumbers}
 
 -- The first pass's answers.

@@ -1,4 +1,2 @@
-pub mod Widths
-pub mod Codes
 pub mod Lines
 pub mod Fills

@@ -1,3 +1,2 @@
 pub mod Passes
 pub mod Answers
-pub mod Steps

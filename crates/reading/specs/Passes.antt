@@ -4,27 +4,13 @@ use Prim.Native.Nat.{ℕ, suc, _≤_}
 use mathlib.Core.Path.{_≡_}
 use mathlib.Core.List.{List, []}
 use lib.ListN.{length}
-use Rattle.rules.specs.Failure as rules-failure
 use Rattle.rules.specs.Failure.{failureRecord}
 use Rattle.rules.specs.Line.{failed, overLimit}
 use Rattle.rules.specs.Reading.{Reading, reads, halts, byteSum, tokenSum}
 use Rattle.rules.specs.Records.{lineNeed, tokenNeed, withEnd, recordsOf}
-use Rattle.reading.specs.declared.FailureRecord.{FailureRecord}
+use Rattle.lines.specs.Steps.{recordIn}
 use Rattle.reading.specs.declared.Pass.{Pass}
 use Rattle.reading.specs.declared.Pass.the-variants.{Records, Fails, TooDeep}
-
-abbrev pub recordIn : rules-failure.FailureRecord → FailureRecord
-recordIn f =
-    record {
-      code = f .code;
-      detail = f .detail;
-      found = f .found;
-      position = f .position;
-      line = f .line;
-      column = f .column;
-      from = f .from;
-      to = f .to;
-    }
 
 -- the numbers of lines and tokens, or the first failure, or the line of a level too many
 abbrev pub passOf : Reading → Pass

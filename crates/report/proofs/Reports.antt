@@ -16,7 +16,7 @@ use Rattle.rules.specs.Records.{haltRefusal, recordedBy, readLines, freshReadin
 use Rattle.rules.specs.Report.{Reported, message, written, reportBy, reportInto}
 use Rattle.rules.proofs.Utf8Laws.{prefix-le, whole-iff}
 use Rattle.rules.proofs.FailureLaws.{failure-placed}
-use Rattle.reading.specs.declared.FailureRecord.{FailureRecord}
+use Rattle.lines.specs.declared.FailureRecord.{FailureRecord}
 use Rattle.reading.specs.declared.Pass.the-variants as pass-variants
 use Rattle.reading.specs.Passes.{passOf, Counted}
 use Rattle.reading.proofs.Fills.{pass-counted, pass-failed, pass-deep, overwritten}

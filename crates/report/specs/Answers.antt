@@ -4,7 +4,7 @@ use Prim.Native.Nat.{ℕ, _+_, _≤_, _<_}
 use mathlib.Core.List.{List, [], _∷_}
 use lib.ListN.{length}
 use Rattle.rules.specs.Replies.{Reply, outBuffer}
-use Rattle.reading.specs.declared.FailureRecord.{FailureRecord}
+use Rattle.lines.specs.declared.FailureRecord.{FailureRecord}
 use Rattle.message.specs.Messages.{messageOf}
 use Rattle.report.specs.declared.ReportAnswer.{ReportAnswer}
 use Rattle.report.specs.declared.ReportAnswer.the-variants.{Message, TooLong, Malformed, TooDeep, ShortOut}

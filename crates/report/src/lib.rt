@@ -13,7 +13,7 @@ pub enum ReportAnswer {
 }
 
 // A failure's message at the front of out, where out holds it.
-fn put_failure(text: &[u8], out: &mut [u8], f: reading::FailureRecord) -> ReportAnswer
+fn put_failure(text: &[u8], out: &mut [u8], f: lines::FailureRecord) -> ReportAnswer
     requires { ⌜ Printable (now text) f ⌝ }
     ensures { λ r. ⌜ reportNumbers r ≡ written (now (out .entry)) (messageIn (now (text .entry)) f) .reply ⌝ }
     ensures { λ _. ⌜ now (out .exit) ≡ written (now (out .entry)) (messageIn (now (text .entry)) f) .out ⌝ }

@@ -1,4 +1,4 @@
--- Reading again: what was read so far, one line more, and how it ends.
+-- Reading on: what was read so far, one line more, and how it ends.
 -- Assumes nothing.
 use Prim.Native.Nat.{ℕ, suc, _+_, _-_, _*_, _≤_, _<_}
 use mathlib.Core.Path.{_≡_, refl, sym, ap, subst, _∙_}
@@ -9,30 +9,29 @@ use native.Mathlib.Omega.{arith}
 use native.Mathlib.Nat.{eq-zero-or-pos}
 use lib.Dec.{ltb, eqb}
 use lib.ListN.{length, take, drop, length-append, length-drop}
-use lib.Seq.{take-at, length-take-le}
+use lib.Seq.{take-at}
 use borrow.Author.Tests.{ltb-true, eqb-true}
 use Rattle.rules.specs.Lists.{same}
 use Rattle.rules.specs.Failure.{Failure, failureRecord}
 use Rattle.rules.specs.Line as rules-line
 use Rattle.rules.specs.Line.{Token, Halt, failed, overLimit, lineReads, lineHalts, readLine}
-use Rattle.rules.specs.Reading.{linesOf, Entry, entry, reads, halts, readFrom, byteSum, tokenSum, stateAt, lineAt, sizeAt}
+use Rattle.rules.specs.Reading.{linesOf, Entry, entry, Reading, reads, halts, readFrom, byteSum, tokenSum, stateAt, lineAt, sizeAt}
 use Rattle.rules.specs.Replies.{maxLevels}
 use Rattle.rules.specs.Records.{stateWords}
 use Rattle.rules.specs.StopRule.{edited, marksFrom, sameState, isStop, fromByte}
 use Rattle.rules.proofs.ListLaws.{and-true}
-use Rattle.rules.proofs.LineLaws.{firstSize-le}
-use Rattle.rules.proofs.ReadingLaws.{read-sizes, byteSum-append, tokenSum-append}
+use Rattle.rules.proofs.ReadingLaws.{read-sizes, byteSum-append}
 use Rattle.rules.proofs.StateLaws.{sameState-words}
 use Rattle.rules.proofs.StopLaws.{mark}
 use Rattle.rules.proofs.MendLaws.{no-stop, kept-size, kept-length}
-use Rattle.rules.proofs.LoopLaws.{ReadTo, read-start, read-line, RereadTo, reread-start, reread-test, reread-line, reread-stop, reread-end, reread-stuck}
-use Rattle.rules.proofs.BoundLaws.{GrownTo, read-grown}
+use Rattle.rules.proofs.LoopLaws.{ReadTo, read-end, read-stuck, RereadTo, reread-start, reread-test, reread-line, reread-stop, reread-end, reread-stuck}
 use Rattle.line.specs.declared.State.{State}
 use Rattle.line.specs.States.{stateOf}
-use Rattle.reading.specs.Passes.{recordIn}
-use Rattle.reading.specs.declared.FailureRecord.{FailureRecord}
+use Rattle.lines.specs.Steps.{recordIn}
+use Rattle.lines.proofs.Lines.{PassTo, pass-start, levels-are, next-pass}
+use Rattle.lines.specs.declared.FailureRecord.{FailureRecord}
 use Rattle.rereading.specs.Words.{startWord, stateIn, oldByte, FirstFrom, stopsAt}
-use Rattle.rereading.specs.Rereads.{Old, Lines, RereadIs}
+use Rattle.rereading.specs.Rereads.{Old, Lines, FailsAs, DeepAs, RereadIs}
 use Rattle.rereading.specs.declared.Reread.the-variants.{Stops, Ends, Fails, TooDeep}
 use Rattle.rereading.proofs.Words.{stop-near, stop-here}
 use Rattle.rereading.proofs.OldLines.{start-is, state-is, levels-at, found, kept-from, same-sym}
@@ -44,77 +43,53 @@ first-lines t z₀ q c es z r hc =
     ap (λ (x : List (List ℕ)). readFrom maxLevels z₀ (take c x)) (r .split) ∙ ap (readFrom maxLevels z₀) (take-at (r .lines) (linesOf (drop q t)) c n) ∙ r .reads-are
 
 -- the lines read so far are the first of the text
-abbrev lines-read : (t : List ℕ) (z₀ : rules-line.State) (q p c k : ℕ) (es : List Entry) (z : rules-line.State) → ReadTo maxLevels z₀ t q es z → length es ≡ c
-    → tokenSum es ≡ k → q ≡ p → Lines t z₀ c k p
-lines-read t z₀ q p c k es z r hc hk hp =
-    record { es = es; after = z; reads-are = first-lines t z₀ q c es z r hc; count = hc; tokens = hk; bytes = r .bytes ∙ hp }
+abbrev lines-read : {t : List ℕ} {z₀ : rules-line.State} {es : List Entry} {widths : List ℕ} {q c k : ℕ} {s : State} → PassTo t z₀ es widths q c k s → (p : ℕ) → q ≡ p → Lines t z₀ c k p
+lines-read {t} {z₀} {es} {widths} {q} {c} {k} {s} v p hp =
+    record { es = es; after = stateOf s widths; reads-are = first-lines t z₀ q c es (stateOf s widths) (v .to) (v .count); count = v .count; tokens = v .sum; bytes = v .to .bytes ∙ hp }
 
-module _ (rest lines : List ℕ) (base i m b kept : ℕ) (z₀ : rules-line.State) where
+module _ (rest lines : List ℕ) (base i m from b kept : ℕ) (z₀ : rules-line.State) where
   -- on a faithful page: no line so far is a stop, and record j starts no later than the byte to compare with
-  pub record Known (o : Old rest lines base i m b kept z₀) (q : ℕ) (es : List Entry) (z : rules-line.State) (j : ℕ) : Type 0 where
+  pub record Known (o : Old rest lines base i m from b kept z₀) (q : ℕ) (es : List Entry) (z : rules-line.State) (j : ℕ) : Type 0 where
     pub again : RereadTo (o .text) (o .entries) (o .end) (o .reads-are) (o .ed) (o .begins) q es z
     pub low : byteSum (take j (o .entries)) ≤ oldByte b kept (base + q)
 
-  -- come q bytes on, past c lines and k tokens, to the state s with these widths; record j is the last one compared with
-  pub record ComeTo (widths : List ℕ) (q c k j : ℕ) (s : State) : Type 0 where
-    pub es : List Entry
-    pub to : ReadTo maxLevels z₀ rest q es (stateOf s widths)
-    pub inside : q ≤ length rest
-    pub count : length es ≡ c
-    pub sum : tokenSum es ≡ k
-    pub few : s .levels ≤ 16
-    pub wide : length widths ≡ 16
+  -- come q bytes on, past c lines es and k tokens, to the state s with these widths; record j is the last one compared with
+  pub record ComeTo (es : List Entry) (widths : List ℕ) (q c k j : ℕ) (s : State) : Type 0 where
+    pub pass : PassTo rest z₀ es widths q c k s
     pub old : j ≤ m
-    pub known : (o : Old rest lines base i m b kept z₀) → Known o q es (stateOf s widths) j
-
-  pub come-start : (widths : List ℕ) (s : State) → z₀ ≡ stateOf s widths → s .levels ≤ 16 → length widths ≡ 16 → i ≤ m → ComeTo widths 0 0 0 i s
-  unfolding tokenSum
-  come-start widths s e few wide h =
-      record {
-        es = [];
-        to = subst (ReadTo maxLevels z₀ rest 0 []) e (read-start maxLevels z₀ rest);
-        inside = omega arith;
-        count = refl;
-        sum = refl;
-        few = few;
-        wide = wide;
-        old = h;
-        known = λ o. record {
-          again = subst (RereadTo (o .text) (o .entries) (o .end) (o .reads-are) (o .ed) (o .begins) 0 []) (sym (o .state-is) ∙ e) (reread-start (o .text) (o .entries) (o .end) (o .reads-are) (o .ed) (o .begins));
-          low = omega (arith, ap (λ (n : ℕ). byteSum (take n (o .entries))) (o .i-is), kept-size maxLevels (o .text) (o .entries) (o .end) (o .reads-are) (o .ed) (o .begins), o .order, o .b-is);
-        };
-      }
+    pub known : (o : Old rest lines base i m from b kept z₀) → Known o q es (stateOf s widths) j
 
   -- what the record to compare with must be
   abbrev pub ComparedWith : (q j r : ℕ) → Type 0
   ComparedWith q j r = (base + q ≤ kept → r ≡ j) × (kept < base + q → FirstFrom lines m j (oldByte b kept (base + q)) r)
 
   -- on a faithful page its words decide as the stop rule does
-  pub record Compared (o : Old rest lines base i m b kept z₀) (q r : ℕ) (z : rules-line.State) : Type 0 where
+  pub record Compared (o : Old rest lines base i m from b kept z₀) (q r : ℕ) (z : rules-line.State) : Type 0 where
     pub stop-is : isStop (marksFrom 0 (o .entries)) (o .ed) (mark (fromByte (o .text) (o .entries) (o .ed) + q) z) ≡ stopsAt lines r b kept (base + q) z
     pub low : byteSum (take r (o .entries)) ≤ oldByte b kept (base + q)
     pub here : kept < base + q → (byteSum (take r (o .entries)) ≡ oldByte b kept (base + q)) × (r < length (o .entries))
 
-module _ {rest lines : List ℕ} {base i m b kept : ℕ} {z₀ : rules-line.State} {widths : List ℕ} {q c k j : ℕ} {s : State} (v : ComeTo rest lines base i m b kept z₀ widths q c k j s) where
+pub come-start : {rest lines : List ℕ} {base i m from b kept : ℕ} (widths : List ℕ) (s : State) → s .levels ≤ 16 → length widths ≡ 16 → from ≤ m
+    → ComeTo rest lines base i m from b kept (stateOf s widths) [] widths 0 0 0 from s
+come-start {rest} {b = b} widths s few wide h =
+    record {
+      pass = pass-start rest widths s few wide;
+      old = h;
+      known = λ o. record {
+        again = subst (RereadTo (o .text) (o .entries) (o .end) (o .reads-are) (o .ed) (o .begins) 0 []) (sym (o .state-is)) (reread-start (o .text) (o .entries) (o .end) (o .reads-are) (o .ed) (o .begins));
+        low = omega (arith, ap (λ (n : ℕ). byteSum (take n (o .entries))) (o .from-is ∙ o .i-is), kept-size maxLevels (o .text) (o .entries) (o .end) (o .reads-are) (o .ed) (o .begins), o .order, o .b-is);
+      };
+    }
+
+module _ {rest lines : List ℕ} {base i m from b kept : ℕ} {z₀ : rules-line.State} {es : List Entry} {widths : List ℕ} {q c k j : ℕ} {s : State} (v : ComeTo rest lines base i m from b kept z₀ es widths q c k j s) where
   abbrev z : rules-line.State
   z = stateOf s widths
 
-  pub grown : GrownTo z₀ q (v .es) z
-  grown = read-grown maxLevels z₀ rest q (v .es) z (v .to)
-
   levels-few : length (z .widths) ≤ maxLevels
-  levels-few = omega (arith, length-take-le (s .levels) widths (omega (arith, v .few, v .wide)), v .few)
+  levels-few = omega (arith, levels-are (v .pass), v .pass .few)
 
-  -- the tokens up to the end of the next line are few
-  pub few-tokens : q < length rest → (ts : List Token) (z′ : rules-line.State) → readLine 16 z (lineAt rest q) ≡ lineReads ts z′ → k + length ts ≤ length (z₀ .widths) + 2 * length rest
-  unfolding tokenSum
-  few-tokens h ts z′ l =
-      let more : List Entry = entry z (sizeAt rest q) ts ∷ [] in
-      let g = read-grown maxLevels z₀ rest (q + sizeAt rest q) (v .es ++ more) z′ (read-line maxLevels z₀ rest q (v .es) z (v .to) ts z′ h l) in
-      omega (arith, g .tokens, tokenSum-append (v .es) more, v .sum, firstSize-le (drop q rest), length-drop q rest)
-
-  module _ (h : q < length rest) (r : ℕ) (hr : ComparedWith rest lines base i m b kept z₀ q j r) (o : Old rest lines base i m b kept z₀) where
-    compared-near : base + q ≤ kept → Compared rest lines base i m b kept z₀ o q r z
+  module _ (h : q < length rest) (r : ℕ) (hr : ComparedWith rest lines base i m from b kept z₀ q j r) (o : Old rest lines base i m from b kept z₀) where
+    compared-near : base + q ≤ kept → Compared rest lines base i m from b kept z₀ o q r z
     compared-near x =
         record {
           stop-is = no-stop maxLevels (o .entries) (o .end) (o .ed) (fromByte (o .text) (o .entries) (o .ed) + q) z (omega (arith, o .base-is, o .kept-is))
@@ -123,12 +98,12 @@ module _ {rest lines : List ℕ} {base i m b kept : ℕ} {z₀ : rules-line.Stat
           here = λ y. absurd (omega arith);
         }
 
-    compared-far : kept < base + q → Compared rest lines base i m b kept z₀ o q r z
+    compared-far : kept < base + q → Compared rest lines base i m from b kept z₀ o q r z
     compared-far x =
         let p : ℕ = fromByte (o .text) (o .entries) (o .ed) + q in
         let long : length rest ≡ length (edited (o .text) (o .ed)) - fromByte (o .text) (o .entries) (o .ed) =
         ap length (o .rest-is) ∙ length-drop (fromByte (o .text) (o .entries) (o .ed)) (edited (o .text) (o .ed)) in
-        let w = reread-test (o .text) (o .entries) (o .end) (o .reads-are) (o .ed) (o .begins) q (v .es) z (v .known o .again) (o .order) (o .inside)
+        let w = reread-test (o .text) (o .entries) (o .end) (o .reads-are) (o .ed) (o .begins) q es z (v .known o .again) (o .order) (o .inside)
         (omega (arith, o .base-is, o .kept-is)) (omega (arith, o .base-is)) in
         let start : byteSum (take (w .0) (o .entries)) ≡ oldByte b kept (base + q) = w .2 ∙ omega (arith, o .base-is, o .kept-is, o .b-is) in
         let e : r ≡ w .0 = found (o .text) (o .entries) (o .end) (o .reads-are) lines m (o .m-is) (o .lines-are) (w .0) j r (oldByte b kept (base + q)) (w .1) start (v .known o .low) (v .old) (hr .1 x) in
@@ -144,26 +119,26 @@ module _ {rest lines : List ℕ} {base i m b kept : ℕ} {z₀ : rules-line.Stat
           here = λ y. (sr, omega (arith, w .1));
         }
 
-    pub compared : Compared rest lines base i m b kept z₀ o q r z
+    pub compared : Compared rest lines base i m from b kept z₀ o q r z
     compared =
         ⊎-elim (λ (x : base + q - kept ≡ 0). compared-near (omega arith)) (λ (x : 0 < base + q - kept). compared-far (omega arith)) (eq-zero-or-pos (base + q - kept))
 
-  module _ (h : q < length rest) (r : ℕ) (hr : ComparedWith rest lines base i m b kept z₀ q j r) (hm : r ≤ m) where
+  module _ (h : q < length rest) (r : ℕ) (hr : ComparedWith rest lines base i m from b kept z₀ q j r) (hm : r ≤ m) where
     -- it stops here
-    pub stopped : stopsAt lines r b kept (base + q) z ≡ true → RereadIs rest lines base i m b kept z₀ (Stops c k q r)
+    pub stopped : stopsAt lines r b kept (base + q) z ≡ true → RereadIs rest lines base i m from b kept z₀ (Stops c k q r)
     stopped e =
         let x = and-true (ltb kept (base + q)) (eqb (startWord lines r) (oldByte b kept (base + q)) && same (stateIn lines r) (stateWords z)) e in
         let y = and-true (eqb (startWord lines r) (oldByte b kept (base + q))) (same (stateIn lines r) (stateWords z)) (x .1) in
         let far : kept < base + q = ltb-true kept (base + q) (x .0) in (
-          lines-read rest z₀ q q c k (v .es) z (v .to) (v .count) (v .sum) refl,
+          lines-read (v .pass) q refl,
           (h, (hm, (far, eqb-true (startWord lines r) (oldByte b kept (base + q)) (y .0)))),
           λ o.
               let d = compared h r hr o in
-              let g = reread-stop (o .text) (o .entries) (o .end) (o .reads-are) (o .ed) (o .begins) q (v .es) z (v .known o .again) (d .stop-is ∙ e) in
+              let g = reread-stop (o .text) (o .entries) (o .end) (o .reads-are) (o .ed) (o .begins) q es z (v .known o .again) (d .stop-is ∙ e) in
               let n = d .here far in
               let kept-are = kept-from (o .text) (o .entries) (o .end) (o .reads-are) (o .ed) (fromByte (o .text) (o .entries) (o .ed) + q) r (n .1) (n .0 ∙ omega (arith, o .base-is, o .kept-is, o .b-is)) in (
-                g .0 ∙ (λ a. reads (take (sym (o .i-is) a) (o .entries) ++ (v .es ++ kept-are a)) (o .end)),
-                g .1 ∙ v .count,
+                g .0 ∙ (λ a. reads (take (sym (o .i-is) a) (o .entries) ++ (es ++ kept-are a)) (o .end)),
+                g .1 ∙ v .pass .count,
                 n .0,
                 n .1,
               ),
@@ -172,63 +147,82 @@ module _ {rest lines : List ℕ} {base i m b kept : ℕ} {z₀ : rules-line.Stat
     -- the next line is read
     pub next-come : stopsAt lines r b kept (base + q) z ≡ false → (widths′ : List ℕ) (q′ n : ℕ) (s′ : State) (ts : List Token)
         → readLine 16 z (lineAt rest q) ≡ lineReads ts (stateOf s′ widths′) → n ≡ length ts → q′ ≡ q + sizeAt rest q → s′ .levels ≤ 16 → length widths′ ≡ 16
-        → ComeTo rest lines base i m b kept z₀ widths′ q′ (c + 1) (k + n) r s′
-    unfolding tokenSum
+        → ComeTo rest lines base i m from b kept z₀ (es ++ (entry z (sizeAt rest q) ts ∷ [])) widths′ q′ (c + 1) (k + n) r s′
     next-come e widths′ q′ n s′ ts l hn hq few′ wide′ =
         let x : Entry = entry z (sizeAt rest q) ts in
         record {
-          es = v .es ++ (x ∷ []);
-          to = subst (λ (y : ℕ). ReadTo maxLevels z₀ rest y (v .es ++ (x ∷ [])) (stateOf s′ widths′)) (sym hq) (read-line maxLevels z₀ rest q (v .es) z (v .to) ts (stateOf s′ widths′) h l);
-          inside = omega (arith, firstSize-le (drop q rest), length-drop q rest);
-          count = omega (arith, length-append (v .es) (x ∷ []), v .count);
-          sum = omega (arith, tokenSum-append (v .es) (x ∷ []), v .sum);
-          few = few′;
-          wide = wide′;
+          pass = next-pass (v .pass) h ts s′ widths′ n q′ l hn hq few′ wide′;
           old = hm;
           known = λ o.
               let d = compared h r hr o in
               let u : List ℕ = drop (fromByte (o .text) (o .entries) (o .ed)) (edited (o .text) (o .ed)) in
-              let next = reread-line (o .text) (o .entries) (o .end) (o .reads-are) (o .ed) (o .begins) q (v .es) z (v .known o .again) ts (stateOf s′ widths′)
+              let next = reread-line (o .text) (o .entries) (o .end) (o .reads-are) (o .ed) (o .begins) q es z (v .known o .again) ts (stateOf s′ widths′)
               (subst (λ (y : List ℕ). q < length y) (o .rest-is) h) (d .stop-is ∙ e) (ap (λ (y : List ℕ). readLine 16 z (lineAt y q)) (sym (o .rest-is)) ∙ l) in
               let size : sizeAt u q ≡ sizeAt rest q = ap (λ (y : List ℕ). sizeAt y q) (sym (o .rest-is)) in
-              let moved = subst (λ (n : ℕ). RereadTo (o .text) (o .entries) (o .end) (o .reads-are) (o .ed) (o .begins) (q + n) (v .es ++ (entry z n ts ∷ [])) (stateOf s′ widths′)) size next in
+              let moved = subst (λ (n : ℕ). RereadTo (o .text) (o .entries) (o .end) (o .reads-are) (o .ed) (o .begins) (q + n) (es ++ (entry z n ts ∷ [])) (stateOf s′ widths′)) size next in
               record {
-                again = subst (λ (n : ℕ). RereadTo (o .text) (o .entries) (o .end) (o .reads-are) (o .ed) (o .begins) n (v .es ++ (x ∷ [])) (stateOf s′ widths′)) (sym hq) moved;
+                again = subst (λ (n : ℕ). RereadTo (o .text) (o .entries) (o .end) (o .reads-are) (o .ed) (o .begins) n (es ++ (x ∷ [])) (stateOf s′ widths′)) (sym hq) moved;
                 low = omega (arith, d .low);
               };
         }
 
-    -- it does not
-    stuck : (x : Halt) → readLine 16 z (lineAt rest q) ≡ lineHalts x → (o : Old rest lines base i m b kept z₀)
-        → (readFrom maxLevels rules-line.initial (linesOf (edited (o .text) (o .ed))) ≡ halts (take i (o .entries) ++ v .es) x)
-        × (byteSum (take i (o .entries) ++ v .es) ≡ base + q) × (suc (length (take i (o .entries) ++ v .es)) ≡ i + c + 1)
-    stuck x l o =
+  -- The next line does not read.
+  module _ (h : q < length rest) (x : Halt) (l : readLine 16 z (lineAt rest q) ≡ lineHalts x) where
+    pub stuck : readFrom maxLevels z₀ (linesOf rest) ≡ halts es x
+    stuck = read-stuck maxLevels z₀ rest q es z (v .pass .to) x h l
+
+    stuck-old : (o : Old rest lines base i m from b kept z₀)
+        → (readFrom maxLevels rules-line.initial (linesOf (edited (o .text) (o .ed))) ≡ halts (take i (o .entries) ++ es) x)
+        × (0 + byteSum (take i (o .entries) ++ es) ≡ base + q) × (0 + length (take i (o .entries) ++ es) + 1 ≡ i + c + 1)
+    stuck-old o =
         let n = kept-length maxLevels (o .text) (o .entries) (o .end) (o .reads-are) (o .ed) (o .begins) in (
-          reread-stuck (o .text) (o .entries) (o .end) (o .reads-are) (o .ed) (o .begins) q (v .es) z (v .known o .again) x
+          reread-stuck (o .text) (o .entries) (o .end) (o .reads-are) (o .ed) (o .begins) q es z (v .known o .again) x
               (subst (λ (y : List ℕ). q < length y) (o .rest-is) h) (ap (λ (y : List ℕ). readLine 16 z (lineAt y q)) (sym (o .rest-is)) ∙ l)
-              ∙ ap (λ (n : ℕ). halts (take n (o .entries) ++ v .es) x) (sym (o .i-is)),
-          byteSum-append (take i (o .entries)) (v .es) ∙ omega (arith, v .to .bytes, o .base-is, ap (λ (n : ℕ). byteSum (take n (o .entries))) (o .i-is)),
-          omega (arith, length-append (take i (o .entries)) (v .es), v .count, n, o .i-is, ap (λ (n : ℕ). length (take n (o .entries))) (o .i-is)),
+              ∙ ap (λ (n : ℕ). halts (take n (o .entries) ++ es) x) (sym (o .i-is)),
+          omega (arith, byteSum-append (take i (o .entries)) es, v .pass .to .bytes, o .base-is, ap (λ (n : ℕ). byteSum (take n (o .entries))) (o .i-is)),
+          omega (arith, length-append (take i (o .entries)) es, v .pass .count, n, o .i-is, ap (λ (n : ℕ). length (take n (o .entries))) (o .i-is)),
         )
 
-    pub failed-come : (f : Failure) (w : FailureRecord) → readLine 16 z (lineAt rest q) ≡ lineHalts (failed f) → w ≡ recordIn (failureRecord (base + q) (i + c + 1) f)
-        → RereadIs rest lines base i m b kept z₀ (Fails w)
-    failed-come f w l e o =
-        let x = stuck (failed f) l o in
-        (take i (o .entries) ++ v .es, f, x .0, e ∙ (λ a. recordIn (failureRecord (sym (x .1) a) (sym (x .2) a) f)))
+    here : base + byteSum es ≡ base + q
+    here = omega (arith, v .pass .to .bytes)
 
-    pub deep-come : readLine 16 z (lineAt rest q) ≡ lineHalts overLimit → RereadIs rest lines base i m b kept z₀ (TooDeep (i + c + 1))
-    deep-come l o =
-        let x = stuck overLimit l o in
-        (take i (o .entries) ++ v .es, x .0, sym (x .2))
+    number : i + length es + 1 ≡ i + c + 1
+    number = omega (arith, v .pass .count)
+
+  module _ (h : q < length rest) where
+    pub failed-come : (f : Failure) (w : FailureRecord) → readLine 16 z (lineAt rest q) ≡ lineHalts (failed f) → w ≡ recordIn (failureRecord (base + q) (i + c + 1) f)
+        → RereadIs rest lines base i m from b kept z₀ (Fails w)
+    failed-come f w l e =
+        let here = here h (failed f) l in
+        let number = number h (failed f) l in (
+          (es, f, stuck h (failed f) l, e ∙ (λ a. recordIn (failureRecord (sym here a) (sym number a) f))),
+          λ o.
+              let x = stuck-old h (failed f) l o in
+              (take i (o .entries) ++ es, f, x .0, e ∙ (λ a. recordIn (failureRecord (sym (x .1) a) (sym (x .2) a) f))),
+        )
+
+    pub deep-come : readLine 16 z (lineAt rest q) ≡ lineHalts overLimit → RereadIs rest lines base i m from b kept z₀ (TooDeep (i + c + 1))
+    deep-come l =
+        ((es, stuck h overLimit l, sym (number h overLimit l)), λ o. let x = stuck-old h overLimit l o in (take i (o .entries) ++ es, x .0, sym (x .2)))
 
   -- it comes to the end
-  pub ended : length rest ≤ q → RereadIs rest lines base i m b kept z₀ (Ends c k (s .levels))
+  pub ended : length rest ≤ q → RereadIs rest lines base i m from b kept z₀ (Ends c k s)
   ended h =
-      let e : q ≡ length rest = omega (arith, v .inside) in (
-        lines-read rest z₀ q (length rest) c k (v .es) z (v .to) (v .count) (v .sum) e,
-        length-take-le (s .levels) widths (omega (arith, v .few, v .wide)),
+      let e : q ≡ length rest = omega (arith, v .pass .inside) in (
+        lines-read (v .pass) (length rest) e,
+        (read-end maxLevels z₀ rest q es z (v .pass .to) h, levels-are (v .pass)),
         λ o.
-            let g = reread-end (o .text) (o .entries) (o .end) (o .reads-are) (o .ed) (o .begins) q (v .es) z (v .known o .again) (subst (λ (y : List ℕ). length y ≤ q) (o .rest-is) h) in
-            (g .0 ∙ ap (λ (n : ℕ). reads (take n (o .entries) ++ v .es) z) (sym (o .i-is)), g .1 ∙ v .count),
+            let g = reread-end (o .text) (o .entries) (o .end) (o .reads-are) (o .ed) (o .begins) q es z (v .known o .again) (subst (λ (y : List ℕ). length y ≤ q) (o .rest-is) h) in
+            (g .0 ∙ ap (λ (n : ℕ). reads (take n (o .entries) ++ es) z) (sym (o .i-is)), g .1 ∙ v .pass .count),
       )
+
+-- A reading of the whole text.
+
+pub fails-whole : {x : Reading} {r : FailureRecord} → FailsAs x 0 0 r → (es : List Entry) × (f : Failure) × (x ≡ halts es (failed f)) × (r ≡ recordIn (failureRecord (byteSum es) (suc (length es)) f))
+fails-whole (es, f, e, w) =
+    let p : 0 + byteSum es ≡ byteSum es = omega arith in
+    let n : 0 + length es + 1 ≡ suc (length es) = omega arith in
+    (es, f, e, w ∙ (λ a. recordIn (failureRecord (p a) (n a) f)))
+
+pub deep-whole : {x : Reading} {l : ℕ} → DeepAs x 0 l → (es : List Entry) × (x ≡ halts es overLimit) × (l ≡ suc (length es))
+deep-whole (es, e, w) = (es, e, w ∙ omega arith)

@@ -1,234 +1,149 @@
 -- Records of lines written one after another.
 -- Assumes nothing.
-use Prim.Native.Nat.{ℕ, suc, _+_, _-_, _*_, _≤_, _<_}
+use Prim.Native.Nat.{ℕ, _+_, _*_, _≤_, _<_}
 use mathlib.Core.Path.{_≡_, refl, sym, ap, subst, _∙_}
+use mathlib.Core.Bool.{Bool, true, false}
 use mathlib.Core.List.{List, [], _∷_, _++_, append-nil}
-use mathlib.Core.Logic.{⊎-elim}
 use native.Mathlib.Omega.{arith}
-use native.Mathlib.Nat.{eq-zero-or-pos}
-use lib.ListN.{length, take, drop, length-append, length-drop, drop-of-length-le}
-use lib.Seq.{sets, length-sets, take-append-add, take-nil, length-take-le}
+use lib.ListN.{length, drop, length-append}
 use Rattle.rules.specs.Line as rules-line
-use Rattle.rules.specs.Line.{Token, LineReply, lineReads, lineHalts, Halt, readLine}
-use Rattle.rules.specs.Reading.{Line, linesOf, content, Entry, entry, Reading, reads, halts, readFrom, linesRead, byteSum, tokenSum, lineAt, sizeAt}
-use Rattle.rules.specs.Replies.{maxLevels}
+use Rattle.rules.specs.Line.{Token, Halt, LineReply, lineReads, lineHalts, readLine}
+use Rattle.rules.specs.Reading.{linesOf, Entry, entry, Reading, reads, halts, readFrom, linesRead, byteSum, tokenSum, lineAt, sizeAt}
 use Rattle.rules.specs.Records.{lineRecord, lineRecords, tokenWords, tokenRecords}
-use Rattle.rules.proofs.LineLaws.{lines-at, content-first, firstSize-le}
-use Rattle.rules.proofs.ReadingLaws.{withEntries, andThen, withEntries-reads, withEntries-halts, readFrom-append, step, read-sizes, tokenSum-append}
+use Rattle.rules.proofs.ReadingLaws.{withEntries, withEntries-reads, withEntries-halts, tokenSum-append}
 use Rattle.rules.proofs.RecordLaws.{lineRecords-append, length-lineRecords, tokenRecords-append, length-tokenRecords}
-use Rattle.rules.proofs.LoopLaws.{ReadTo, read-start, read-line}
-use Rattle.rules.proofs.BoundLaws.{GrownTo, read-grown}
-use Rattle.laws.proofs.Sets.{sets-append}
+use Rattle.rules.proofs.LoopLaws.{ReadTo, read-line, read-stuck, read-rest}
+use Rattle.laws.specs.Puts.{putIf}
+use Rattle.laws.proofs.Puts.{length-putIf, putIf-append, putIf-none, putIf-by}
 use Rattle.line.specs.declared.State.{State}
 use Rattle.line.specs.States.{stateOf}
-use Rattle.line.specs.LineCuts as line-cuts
-use Rattle.rereading.specs.Rewrites.{readFirst, RoomFrom, Reaches}
-use Rattle.rereading.proofs.Rereads.{first-lines}
+use Rattle.line.specs.LineCuts.{RoomIn, tokensIn}
+use Rattle.lines.proofs.Lines.{PassTo}
+use Rattle.rereading.specs.Rewrites.{RoomFrom, MayPut, Reaches}
 
--- The records of one line more.
+-- The records of one line more, which may be the end.
 
-module _ (base i k₀ : ℕ) (es : List Entry) (e : Entry) (c p k : ℕ) (hc : length es ≡ c) (hp : base + byteSum es ≡ p) (hk : k₀ + tokenSum es ≡ k) where
-  pub more-lines : (l₀ l l′ : List ℕ) → l ≡ sets l₀ (21 * i) (lineRecords base k₀ es) → l′ ≡ sets l (21 * (i + c)) (lineRecord p k (e .before))
-      → l′ ≡ sets l₀ (21 * i) (lineRecords base k₀ (es ++ (e ∷ [])))
+module _ (write : Bool) (base i first : ℕ) (es : List Entry) (e : Entry) (c p k : ℕ) (hc : length es ≡ c) (hp : base + byteSum es ≡ p) (hk : first + tokenSum es ≡ k) where
+  pub more-lines : (l₀ l l′ : List ℕ) → l ≡ putIf write l₀ (21 * i) (lineRecords base first es) → l′ ≡ putIf write l (21 * (i + c)) (lineRecord p k (e .before))
+      → l′ ≡ putIf write l₀ (21 * i) (lineRecords base first (es ++ (e ∷ [])))
   unfolding lineRecords
   more-lines l₀ l l′ el q =
-      let had : List ℕ = lineRecords base k₀ es in
+      let had : List ℕ = lineRecords base first es in
       let more : List ℕ = lineRecord p k (e .before) in
-      let long : 21 * (i + c) ≡ 21 * i + length had = omega (arith, length-lineRecords base k₀ es, hc) in
-      let both : lineRecords base k₀ (es ++ (e ∷ [])) ≡ had ++ more =
-      lineRecords-append base k₀ es (e ∷ []) ∙ ap (λ (x : List ℕ). had ++ x) (append-nil (lineRecord (base + byteSum es) (k₀ + tokenSum es) (e .before)) ∙ (λ a. lineRecord (hp a) (hk a) (e .before))) in
-      q ∙ (λ a. sets (el a) (long a) more) ∙ sym (sets-append had more l₀ (21 * i)) ∙ ap (sets l₀ (21 * i)) (sym both)
+      let long : 21 * (i + c) ≡ 21 * i + length had = omega (arith, length-lineRecords base first es, hc) in
+      let both : lineRecords base first (es ++ (e ∷ [])) ≡ had ++ more =
+      lineRecords-append base first es (e ∷ []) ∙ ap (λ (x : List ℕ). had ++ x) (append-nil (lineRecord (base + byteSum es) (first + tokenSum es) (e .before)) ∙ (λ a. lineRecord (hp a) (hk a) (e .before))) in
+      q ∙ ap (λ (x : List ℕ). putIf write x (21 * (i + c)) more) el ∙ putIf-append write l₀ (21 * i) (21 * (i + c)) had more long ∙ ap (putIf write l₀ (21 * i)) (sym both)
 
-  pub more-tokens : (l₀ l l′ : List ℕ) → l ≡ sets l₀ (5 * k₀) (tokenRecords base (i + 1) es) → l′ ≡ sets l (5 * k) (tokenWords p (i + c + 1) (e .tokens))
-      → l′ ≡ sets l₀ (5 * k₀) (tokenRecords base (i + 1) (es ++ (e ∷ [])))
+  pub more-tokens : (l₀ l l′ : List ℕ) → l ≡ putIf write l₀ (5 * first) (tokenRecords base (i + 1) es) → l′ ≡ putIf write l (5 * k) (tokenWords p (i + c + 1) (e .tokens))
+      → l′ ≡ putIf write l₀ (5 * first) (tokenRecords base (i + 1) (es ++ (e ∷ [])))
   unfolding tokenRecords
   more-tokens l₀ l l′ el q =
       let had : List ℕ = tokenRecords base (i + 1) es in
       let more : List ℕ = tokenWords p (i + c + 1) (e .tokens) in
-      let long : 5 * k ≡ 5 * k₀ + length had = omega (arith, length-tokenRecords base (i + 1) es, hk) in
+      let long : 5 * k ≡ 5 * first + length had = omega (arith, length-tokenRecords base (i + 1) es, hk) in
       let number : i + 1 + length es ≡ i + c + 1 = omega (arith, hc) in
       let both : tokenRecords base (i + 1) (es ++ (e ∷ [])) ≡ had ++ more =
       tokenRecords-append base (i + 1) es (e ∷ []) ∙ ap (λ (x : List ℕ). had ++ x) (append-nil (tokenWords (base + byteSum es) (i + 1 + length es) (e .tokens)) ∙ (λ a. tokenWords (hp a) (number a) (e .tokens))) in
-      q ∙ (λ a. sets (el a) (long a) more) ∙ sym (sets-append had more l₀ (5 * k₀)) ∙ ap (sets l₀ (5 * k₀)) (sym both)
+      q ∙ ap (λ (x : List ℕ). putIf write x (5 * k) more) el ∙ putIf-append write l₀ (5 * first) (5 * k) had more long ∙ ap (putIf write l₀ (5 * first)) (sym both)
 
--- The next of lines that are known to read.
+-- The buffers hold the records of the lines es, where the pass writes.
+pub record PutTo (write : Bool) (base i first : ℕ) (lines₀ tokens₀ : List ℕ) (es : List Entry) (lines tokens : List ℕ) : Type 0 where
+  pub line-words : lines ≡ putIf write lines₀ (21 * i) (lineRecords base first es)
+  pub token-words : tokens ≡ putIf write tokens₀ (5 * first) (tokenRecords base (i + 1) es)
 
-pub record NextLine (t : List ℕ) (q : ℕ) (z : rules-line.State) (es all : List Entry) : Type 0 where
-  pub some : q < length t
-  pub ts : List Token
-  pub mid : rules-line.State
-  pub line-is : readLine maxLevels z (lineAt t q) ≡ lineReads ts mid
-  pub rest : List Entry
-  pub all-are : all ≡ es ++ (entry z (sizeAt t q) ts ∷ rest)
+pub put-start : {write : Bool} {base i first : ℕ} {lines₀ tokens₀ : List ℕ} → PutTo write base i first lines₀ tokens₀ [] lines₀ tokens₀
+unfolding lineRecords tokenRecords
+put-start {write} {base} {i} {first} {lines₀} {tokens₀} =
+    record { line-words = sym (putIf-none write lines₀ (21 * i)); token-words = sym (putIf-none write tokens₀ (5 * first)) }
 
-module _ (t : List ℕ) (z₀ : rules-line.State) (q c count : ℕ) (es : List Entry) (z : rules-line.State) (r : ReadTo maxLevels z₀ t q es z) (hc : length es ≡ c) (less : c < count) where
-  -- what the lines after those read so far give
-  split-first : readFirst count z₀ t ≡ withEntries es (readFrom maxLevels z (take (count - c) (linesOf (drop q t))))
-  split-first =
-      let n : length (r .lines) ≡ c = sym (read-sizes maxLevels z₀ (r .lines) es z (r .reads-are) .0) ∙ hc in
-      let k : count ≡ length (r .lines) + (count - c) = omega arith in
-      ap (λ (x : List Line). readFrom maxLevels z₀ (take count x)) (r .split)
-      ∙ ap (λ (n : ℕ). readFrom maxLevels z₀ (take n (r .lines ++ linesOf (drop q t)))) k
-      ∙ ap (readFrom maxLevels z₀) (take-append-add (r .lines) (linesOf (drop q t)) (count - c))
-      ∙ readFrom-append maxLevels z₀ (r .lines) (take (count - c) (linesOf (drop q t)))
-      ∙ ap (λ (x : Reading). andThen x (λ y. readFrom maxLevels y (take (count - c) (linesOf (drop q t))))) (r .reads-are)
+module _ {write : Bool} {base i first : ℕ} {lines₀ tokens₀ : List ℕ} {es : List Entry} {lines tokens : List ℕ} (w : PutTo write base i first lines₀ tokens₀ es lines tokens) where
+  pub lines-kept : length lines ≡ length lines₀
+  lines-kept = ap length (w .line-words) ∙ length-putIf write lines₀ (21 * i) (lineRecords base first es)
 
-  front-of : (x : Reading) (all : List Entry) (end : rules-line.State) → withEntries es x ≡ reads all end → (ys : List Entry) × (x ≡ reads ys end) × (all ≡ es ++ ys)
-  front-of (reads ys y) all end e =
-      let w : reads (es ++ ys) y ≡ reads all end = sym (withEntries-reads es ys y) ∙ e in
-      let hy : y ≡ end = cc in
-      (ys, ap (reads ys) hy, cc)
-  front-of (halts ys h) all end e =
-      let w : halts (es ++ ys) h ≡ reads all end = sym (withEntries-halts es ys h) ∙ e in
-      let b : _≡_ {A = ℕ} 0 1 = cc in
-      absurd (omega arith)
+  pub tokens-kept : length tokens ≡ length tokens₀
+  tokens-kept = ap length (w .token-words) ∙ length-putIf write tokens₀ (5 * first) (tokenRecords base (i + 1) es)
 
-  no-line : (ys : List Entry) (end : rules-line.State) (n : ℕ) → length t ≤ q → readFrom maxLevels z (take n (linesOf (drop q t))) ≡ reads ys end → ys ≡ []
-  unfolding readFrom linesOf
-  no-line ys end n h e =
-      let w : reads [] z ≡ reads ys end =
-      sym (ap (λ (x : List ℕ). readFrom maxLevels z (take n (linesOf x))) (drop-of-length-le t {i = q} h) ∙ ap (readFrom maxLevels z) (take-nil n)) ∙ e in
-      cc
-
-  one-line : (ys : List Entry) (end : rules-line.State) (n : ℕ) → q < length t → readFrom maxLevels z (take (suc n) (linesOf (drop q t))) ≡ reads ys end
-      → (ts : List Token) × (mid : rules-line.State) × (readLine maxLevels z (lineAt t q) ≡ lineReads ts mid) × (rest : List Entry) × (ys ≡ entry z (sizeAt t q) ts ∷ rest)
-  unfolding readFrom
-  one-line ys end n h e =
-      let l : Line = take (sizeAt t q) (drop q t) in
-      let ls : List Line = linesOf (drop (q + sizeAt t q) t) in
-      let w : readFrom maxLevels z (l ∷ take n ls) ≡ reads ys end = sym (ap (λ (x : List Line). readFrom maxLevels z (take (suc n) x)) (lines-at t q h)) ∙ e in
-      let st = step maxLevels z l (readLine maxLevels z (content l)) (λ y. readFrom maxLevels y (take n ls)) ys end w in (
-        st .ts,
-        st .mid,
-        sym (ap (readLine maxLevels z) (content-first (drop q t))) ∙ st .line-is,
-        st .rest,
-        st .entries-are ∙ ap (λ (n : ℕ). entry z n (st .ts) ∷ st .rest) (length-take-le (sizeAt t q) (drop q t) (firstSize-le (drop q t))),
-      )
-
-  module _ (all : List Entry) (end : rules-line.State) (ha : readFirst count z₀ t ≡ reads all end) (hn : length all ≡ count) where
-    pub next-line : NextLine t q z es all
-    next-line =
-        let f = front-of (readFrom maxLevels z (take (count - c) (linesOf (drop q t)))) all end (sym split-first ∙ ha) in
-        ⊎-elim (λ (x : length t - q ≡ 0). absurd (none (f .0) (f .1) (f .2) (omega arith))) (λ (x : 0 < length t - q). some-line (f .0) (f .1) (f .2) (omega arith)) (eq-zero-or-pos (length t - q))
-      where
-        none : (ys : List Entry) → readFrom maxLevels z (take (count - c) (linesOf (drop q t))) ≡ reads ys end → all ≡ es ++ ys → length t ≤ q → ⊥
-        none ys e w h =
-            let n : ys ≡ [] = no-line ys end (count - c) h e in
-            let k : length ys ≡ 0 = ap length n in
-            omega (arith, ap length w, length-append es ys)
-
-        some-line : (ys : List Entry) → readFrom maxLevels z (take (count - c) (linesOf (drop q t))) ≡ reads ys end → all ≡ es ++ ys → q < length t → NextLine t q z es all
-        some-line ys e w h =
-            let n : count - c ≡ suc (count - c - 1) = omega arith in
-            let o = one-line ys end (count - c - 1) h (subst (λ (m : ℕ). readFrom maxLevels z (take m (linesOf (drop q t))) ≡ reads ys end) n e) in
-            record { some = h; ts = o .0; mid = o .1; line-is = o .2; rest = o .3; all-are = w ∙ ap (λ (x : List Entry). es ++ x) (o .4) }
-
--- The lines written so far.
-
-module _ (rest lines₀ tokens₀ : List ℕ) (base i k₀ count : ℕ) (z₀ : rules-line.State) where
-  -- come q bytes on, past c lines, to token k and the state s with these widths
-  pub record WrittenTo (lines tokens widths : List ℕ) (q c k : ℕ) (s : State) : Type 0 where
-    pub es : List Entry
-    pub to : ReadTo maxLevels z₀ rest q es (stateOf s widths)
-    pub inside : q ≤ length rest
-    pub number : length es ≡ c
-    pub within : c ≤ count
-    pub sum : k₀ + tokenSum es ≡ k
-    pub few : s .levels ≤ 16
-    pub wide : length widths ≡ 16
-    pub line-words : lines ≡ sets lines₀ (21 * i) (lineRecords base k₀ es)
-    pub token-words : tokens ≡ sets tokens₀ (5 * k₀) (tokenRecords base (i + 1) es)
-
-  pub written-start : (widths : List ℕ) (s : State) → z₀ ≡ stateOf s widths → s .levels ≤ 16 → length widths ≡ 16 → WrittenTo lines₀ tokens₀ widths 0 0 k₀ s
-  unfolding tokenSum lineRecords tokenRecords
-  written-start widths s e few wide =
+  -- a pass that does not write leaves the buffers as they were
+  pub unwritten : (write ≡ true → ⊥) → {lines′ tokens′ : List ℕ} (a b : ℕ) (xs ys : List ℕ) → lines′ ≡ putIf write lines a xs → tokens′ ≡ putIf write tokens b ys
+      → (es′ : List Entry) → PutTo write base i first lines₀ tokens₀ es′ lines′ tokens′
+  unwritten nothing a b xs ys el et es′ =
       record {
-        es = [];
-        to = subst (ReadTo maxLevels z₀ rest 0 []) e (read-start maxLevels z₀ rest);
-        inside = omega arith;
-        number = refl;
-        within = omega arith;
-        sum = omega arith;
-        few = few;
-        wide = wide;
-        line-words = refl;
-        token-words = refl;
+        line-words = el ∙ putIf-by write lines a xs [] (λ x. absurd (nothing x)) ∙ putIf-none write lines a ∙ w .line-words ∙ putIf-by write lines₀ (21 * i) _ _ (λ x. absurd (nothing x));
+        token-words = et ∙ putIf-by write tokens b ys [] (λ x. absurd (nothing x)) ∙ putIf-none write tokens b ∙ w .token-words ∙ putIf-by write tokens₀ (5 * first) _ _ (λ x. absurd (nothing x));
       }
 
-module _ {rest lines₀ tokens₀ : List ℕ} {base i k₀ count : ℕ} {z₀ : rules-line.State} {lines tokens widths : List ℕ} {q c k : ℕ} {s : State} (v : WrittenTo rest lines₀ tokens₀ base i k₀ count z₀ lines tokens widths q c k s) where
+  pub all-put : {x : Reading} {z : rules-line.State} → x ≡ reads es z → PutTo write base i first lines₀ tokens₀ (linesRead x) lines tokens
+  unfolding linesRead
+  all-put e = rw e w
+
+-- Where the whole text reads, what was read is the front of all.
+front : (t : List ℕ) (z₀ : rules-line.State) (p : ℕ) (es : List Entry) (z : rules-line.State) → ReadTo 16 z₀ t p es z
+    → (all : List Entry) (end : rules-line.State) → readFrom 16 z₀ (linesOf t) ≡ reads all end → (ys : List Entry) × (all ≡ es ++ ys)
+front t z₀ p es z r all end e = go (readFrom 16 z (linesOf (drop p t))) (sym e ∙ read-rest 16 z₀ t p es z r)
+  where
+    go : (x : Reading) → reads all end ≡ withEntries es x → (ys : List Entry) × (all ≡ es ++ ys)
+    go (reads ys y) q = let w : reads all end ≡ reads (es ++ ys) y = q ∙ withEntries-reads es ys y in (ys, cc)
+    go (halts ys h) q =
+        let w : reads all end ≡ halts (es ++ ys) h = q ∙ withEntries-halts es ys h in
+        let b : _≡_ {A = ℕ} 0 1 = cc in
+        absurd (omega arith)
+
+not-both : {x : Reading} {es all : List Entry} {z : rules-line.State} {h : Halt} → x ≡ reads all z → x ≡ halts es h → ⊥
+not-both e f = let b : _≡_ {A = ℕ} 0 1 = cc in omega arith
+
+module _ {t : List ℕ} {z₀ : rules-line.State} {es : List Entry} {widths : List ℕ} {q c k : ℕ} {s : State} (v : PassTo t z₀ es widths q c k s) (h : q < length t) where
   abbrev z : rules-line.State
   z = stateOf s widths
 
-  pub grows : GrownTo z₀ q (v .es) z
-  grows = read-grown maxLevels z₀ rest q (v .es) z (v .to)
+  -- room for the next line
+  abbrev NextRoom : LineReply → (i first lines tokens : ℕ) → Type 0
+  NextRoom x i first lines tokens = (first + k ≤ 3_000_000) × ((21 * (i + c) + 21 ≤ lines) × RoomIn x (first + k) tokens)
 
-  pub lines-kept : length lines ≡ length lines₀
-  lines-kept = ap length (v .line-words) ∙ length-sets lines₀ (21 * i) (lineRecords base k₀ (v .es))
-
-  pub tokens-kept : length tokens ≡ length tokens₀
-  tokens-kept = ap length (v .token-words) ∙ length-sets tokens₀ (5 * k₀) (tokenRecords base (i + 1) (v .es))
-
-  -- the next line reads, and there is room for it
-  pub record Next : Type 0 where
-    pub some : q < length rest
-    pub ts : List Token
-    pub mid : rules-line.State
-    pub line-is : readLine maxLevels z (lineAt rest q) ≡ lineReads ts mid
-    pub line-room : 21 * (i + c) + 21 ≤ length lines
-    pub token-room : 5 * (k + length ts) ≤ length tokens
-    pub small : k + length ts ≤ 3_000_000
-
-  pub next-of : c < count → (x : Reading) → readFirst count z₀ rest ≡ x → RoomFrom x count i k₀ (length lines₀) (length tokens₀) → Next
+  next-room : (i first lines tokens : ℕ) (x : Reading) → readFrom 16 z₀ (linesOf t) ≡ x → RoomFrom x i first lines tokens → NextRoom (readLine 16 z (lineAt t q)) i first lines tokens
   unfolding tokenSum
-  next-of less (halts es h) e r = absurd r
-  next-of less (reads all end) e r =
-      let n = next-line rest z₀ q c count (v .es) z (v .to) (v .number) less all end e (r .0) in
-      let sums : tokenSum all ≡ tokenSum (v .es) + (length (n .ts) + tokenSum (n .rest)) =
-      ap tokenSum (n .all-are) ∙ tokenSum-append (v .es) (entry z (sizeAt rest q) (n .ts) ∷ n .rest) in
-      record {
-        some = n .some;
-        ts = n .ts;
-        mid = n .mid;
-        line-is = n .line-is;
-        line-room = omega (arith, r .1 .0, lines-kept);
-        token-room = omega (arith, r .1 .1 .0, tokens-kept, v .sum);
-        small = omega (arith, r .1 .1 .1, v .sum);
-      }
+  next-room i first lines tokens (halts all x) e r = absurd r
+  next-room i first lines tokens (reads all end) e r = go (readLine 16 z (lineAt t q)) refl
+    where
+      go : (x : LineReply) → readLine 16 z (lineAt t q) ≡ x → NextRoom x i first lines tokens
+      go (lineReads ts y) l =
+          let x : Entry = entry z (sizeAt t q) ts in
+          let f = front t z₀ (q + sizeAt t q) (es ++ (x ∷ [])) y (read-line 16 z₀ t q es z (v .to) ts y h l) all end e in
+          let n : length all ≡ c + 1 + length (f .0) = omega (arith, ap length (f .1), length-append (es ++ (x ∷ [])) (f .0), length-append es (x ∷ []), v .count) in
+          let sums : tokenSum all ≡ k + length ts + tokenSum (f .0) = omega (arith, ap tokenSum (f .1), tokenSum-append (es ++ (x ∷ [])) (f .0), tokenSum-append es (x ∷ []), v .sum) in
+          (omega (arith, r .1 .1), (omega (arith, r .0), omega (arith, r .1 .0)))
+      go (lineHalts x) l = absurd (not-both e (read-stuck 16 z₀ t q es z (v .to) x h l))
+
+  -- the next line's token and, where the pass writes, its room
+  pub may-next : {write : Bool} {end kept i first lines tokens : ℕ} → MayPut write (readFrom 16 z₀ (linesOf t)) end kept i first lines tokens → k ≤ 3_000_000
+      → (first + k ≤ 3_000_000) × (write ≡ true → (21 * (i + c) + 21 ≤ lines) × RoomIn (readLine 16 z (lineAt t q)) (first + k) tokens)
+  may-next {write} {end} {kept} {i} {first} {lines} {tokens} r few = (go write refl, λ e. room e .1)
+    where
+      room : write ≡ true → NextRoom (readLine 16 z (lineAt t q)) i first lines tokens
+      room e = next-room i first lines tokens _ refl (r .room e)
+
+      go : (w : Bool) → write ≡ w → first + k ≤ 3_000_000
+      go true e = room e .0
+      go false e = omega (arith, r .counts e)
 
   -- the next line is written
-  pub written-more : c < count → q < length rest → (lines′ tokens′ widths′ : List ℕ) (q′ n : ℕ) (s′ : State) (ts : List Token)
-      → readLine 16 z (lineAt rest q) ≡ lineReads ts (stateOf s′ widths′) → n ≡ length ts → q′ ≡ q + sizeAt rest q → s′ .levels ≤ 16 → length widths′ ≡ 16
-      → lines′ ≡ sets lines (21 * (i + c)) (lineRecord (base + q) k z) → tokens′ ≡ sets tokens (5 * k) (tokenWords (base + q) (i + c + 1) (line-cuts.tokensIn (readLine 16 z (lineAt rest q))))
-      → WrittenTo rest lines₀ tokens₀ base i k₀ count z₀ lines′ tokens′ widths′ q′ (c + 1) (k + n) s′
-  unfolding tokenSum
-  written-more less h lines′ tokens′ widths′ q′ n s′ ts l hn hq few′ wide′ el et =
-      let x : Entry = entry z (sizeAt rest q) ts in
-      let hp : base + byteSum (v .es) ≡ base + q = ap (λ (n : ℕ). base + n) (v .to .bytes) in
+  pub put-next : {write : Bool} {base i first : ℕ} {lines₀ tokens₀ lines tokens lines′ tokens′ : List ℕ} → PutTo write base i first lines₀ tokens₀ es lines tokens
+      → (ts : List Token) (y : rules-line.State) → readLine 16 z (lineAt t q) ≡ lineReads ts y → lines′ ≡ putIf write lines (21 * (i + c)) (lineRecord (base + q) (first + k) z)
+      → tokens′ ≡ putIf write tokens (5 * (first + k)) (tokenWords (base + q) (i + c + 1) (tokensIn (readLine 16 z (lineAt t q))))
+      → PutTo write base i first lines₀ tokens₀ (es ++ (entry z (sizeAt t q) ts ∷ [])) lines′ tokens′
+  put-next {write} {base} {i} {first} {lines₀} {tokens₀} {lines} {tokens} {lines′} {tokens′} w ts y l el et =
+      let x : Entry = entry z (sizeAt t q) ts in
+      let hp : base + byteSum es ≡ base + q = omega (arith, v .to .bytes) in
+      let hk : first + tokenSum es ≡ first + k = omega (arith, v .sum) in
       record {
-        es = v .es ++ (x ∷ []);
-        to = subst (λ (y : ℕ). ReadTo maxLevels z₀ rest y (v .es ++ (x ∷ [])) (stateOf s′ widths′)) (sym hq) (read-line maxLevels z₀ rest q (v .es) z (v .to) ts (stateOf s′ widths′) h l);
-        inside = omega (arith, firstSize-le (drop q rest), length-drop q rest);
-        number = omega (arith, length-append (v .es) (x ∷ []), v .number);
-        within = omega arith;
-        sum = omega (arith, tokenSum-append (v .es) (x ∷ []), v .sum);
-        few = few′;
-        wide = wide′;
-        line-words = more-lines base i k₀ (v .es) x c (base + q) k (v .number) hp (v .sum) lines₀ lines lines′ (v .line-words) el;
-        token-words = more-tokens base i k₀ (v .es) x c (base + q) k (v .number) hp (v .sum) tokens₀ tokens tokens′ (v .token-words)
-            (et ∙ ap (λ (y : LineReply). sets tokens (5 * k) (tokenWords (base + q) (i + c + 1) (line-cuts.tokensIn y))) l);
+        line-words = more-lines write base i first es x c (base + q) (first + k) (v .count) hp hk lines₀ lines lines′ (w .line-words) el;
+        token-words = more-tokens write base i first es x c (base + q) (first + k) (v .count) hp hk tokens₀ tokens tokens′ (w .token-words)
+            (et ∙ ap (λ (r : LineReply). putIf write tokens (5 * (first + k)) (tokenWords (base + q) (i + c + 1) (tokensIn r))) l);
       }
 
-  -- all are written
-  pub all-written : count ≤ c → Reaches (readFirst count z₀ rest) z × ((lines ≡ sets lines₀ (21 * i) (lineRecords base k₀ (linesRead (readFirst count z₀ rest))))
-      × (tokens ≡ sets tokens₀ (5 * k₀) (tokenRecords base (i + 1) (linesRead (readFirst count z₀ rest)))))
-  unfolding linesRead
-  all-written h =
-      let e : readFirst count z₀ rest ≡ reads (v .es) z = first-lines rest z₀ q count (v .es) z (v .to) (omega (arith, v .number, v .within)) in
-      rw e (refl, (v .line-words, v .token-words))
+-- A pass that writes meets no halt.
+pub may-read : {write : Bool} {x : Reading} {end kept i first lines tokens : ℕ} → MayPut write x end kept i first lines tokens → {es : List Entry} {h : Halt} → x ≡ halts es h → write ≡ true → ⊥
+may-read {i = i} {first} {lines} {tokens} r e w = subst (λ (y : Reading). RoomFrom y i first lines tokens) e (r .room w)
 
--- a line that reads does not halt
-pub not-both : {x : LineReply} {ts : List Token} {z : rules-line.State} {h : Halt} → x ≡ lineReads ts z → x ≡ lineHalts h → ⊥
-not-both e f = let b : _≡_ {A = ℕ} 0 1 = cc in omega arith
-
-pub same-tokens : {ts us : List Token} {y z : rules-line.State} → lineReads ts y ≡ lineReads us z → ts ≡ us
-same-tokens e = cc
+pub reached : {x : Reading} {es : List Entry} {z : rules-line.State} → x ≡ reads es z → Reaches x z
+reached e = rw e refl

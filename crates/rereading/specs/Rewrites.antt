@@ -2,22 +2,34 @@
 -- Assumes nothing.
 use Prim.Native.Nat.{ℕ, _+_, _*_, _≤_}
 use mathlib.Core.Path.{_≡_}
+use mathlib.Core.Bool.{Bool, true, false}
 use mathlib.Core.List.{List}
-use lib.ListN.{length, take}
+use lib.ListN.{length}
 use Rattle.rules.specs.Line.{State}
-use Rattle.rules.specs.Reading.{linesOf, Reading, reads, halts, readFrom, tokenSum}
+use Rattle.rules.specs.Reading.{Reading, reads, halts, tokenSum}
+use Rattle.line.specs.States.{stateOf}
+use Rattle.rereading.specs.declared.Reread.{Reread}
+use Rattle.rereading.specs.declared.Reread.the-variants.{Stops, Ends, Fails, TooDeep}
 
--- the first `count` lines of a text, read from a state
-abbrev pub readFirst : (count : ℕ) → State → List ℕ → Reading
-readFirst count z text = readFrom 16 z (take count (linesOf text))
+-- the lines read, and buffers of these lengths hold their records from record i and token k on
+abbrev pub RoomFrom : Reading → (i k lines tokens : ℕ) → Type 0
+RoomFrom (reads es z) i k lines tokens = (21 * (i + length es) ≤ lines) × ((5 * (k + tokenSum es) ≤ tokens) × (k + tokenSum es ≤ 3_000_000))
+RoomFrom (halts es h) i k lines tokens = ⊥
 
--- so many lines are read, and buffers of these lengths hold their records from record i and token k on
-abbrev pub RoomFrom : Reading → (count i k lines tokens : ℕ) → Type 0
-RoomFrom (reads es z) count i k lines tokens =
-    (length es ≡ count) × ((21 * (i + count) ≤ lines) × ((5 * (k + tokenSum es) ≤ tokens) × (k + tokenSum es ≤ 3_000_000)))
-RoomFrom (halts es h) count i k lines tokens = ⊥
+-- a pass that writes comes to the end of the text, since no tail is kept, and has room; one that only counts begins with token 0
+pub record MayPut (write : Bool) (x : Reading) (end kept i k lines tokens : ℕ) : Type 0 where
+  pub ends : write ≡ true → end ≤ kept
+  pub room : write ≡ true → RoomFrom x i k lines tokens
+  pub counts : write ≡ false → k ≡ 0
 
--- the state after them
+-- the state after the lines
 abbrev pub Reaches : Reading → State → Type 0
 Reaches (reads es z) s = s ≡ z
 Reaches (halts es h) s = ⊥
+
+-- where reading on comes to the end, it is in this state, with these widths
+abbrev pub EndsIn : Reading → (widths : List ℕ) → Reread → Type 0
+EndsIn x widths (Ends c k s) = Reaches x (stateOf s widths) × (s .levels ≤ 16)
+EndsIn x widths (Stops c k q j) = Unit {0}
+EndsIn x widths (Fails r) = Unit {0}
+EndsIn x widths (TooDeep l) = Unit {0}

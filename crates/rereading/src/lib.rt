@@ -1,4 +1,4 @@
-// Lines of an edited text read again, up to the stop rule.
+// Lines read from a state on, up to the stop rule against old line records.
 ghost use mathlib.Core.Path.{_≡_};
 ghost use mathlib.Core.Bool.{true};
 ghost use mathlib.Core.List.{[], _∷_};
@@ -7,7 +7,7 @@ ghost use lib.ListN.{length, getD, take, drop};
 ghost use lib.Seq.{sets};
 ghost use Rattle.rules.specs.Lists.{same};
 ghost use Rattle.rules.specs.Line.{readLine};
-ghost use Rattle.rules.specs.Reading.{linesRead};
+ghost use Rattle.rules.specs.Reading.{linesOf, readFrom, linesRead};
 ghost use Rattle.rules.specs.Records.{stateWords, lineRecord, lineRecords, tokenWords, tokenRecords, packed};
 ghost use Rattle.spelling.specs.Bytes.{classTable, reachTable};
 ghost use Rattle.spelling.specs.Rows.{keywordTable, signTable, signIndexTable};
@@ -16,7 +16,7 @@ ghost use Rattle.line.specs.LineCuts.{tokensIn, RoomIn};
 ghost use Rattle.laws.specs.Puts.{putIf};
 ghost use Rattle.rereading.specs.Words.{startWord, stateIn, oldByte, FirstFrom, stopsAt};
 ghost use Rattle.rereading.specs.Rereads.{RereadIs};
-ghost use Rattle.rereading.specs.Rewrites.{readFirst, RoomFrom, Reaches};
+ghost use Rattle.rereading.specs.Rewrites.{RoomFrom, MayPut, Reaches, EndsIn};
 
 // From record j on, the first of m that starts at the byte `at` or beyond.
 fn first_from(lines: &[u32], m: usize, j: usize, at: usize) -> usize
@@ -62,7 +62,7 @@ fn same_widths(lines: &[u32], at: usize, widths: &[u32], levels: usize) -> bool
 {
     let mut i: usize = 0;
     while i < 16 {
-        if lines[at + i] != reading::width_at(widths, levels, i) {
+        if lines[at + i] != lines::width_at(widths, levels, i) {
             return false;
         }
         i += 1;
@@ -111,89 +111,98 @@ fn stops_at(
     same_state(lines, j, s, widths)
 }
 
-// What reading again gives: a stop after so many lines, tokens and bytes, at an old line; the end after so many lines and tokens,
-// with so many open levels; the first failure; or the line of a level too many.
+// What reading on gives: a stop after so many lines, tokens and bytes, at an old line; the end after so many lines and tokens, in a
+// state; the first failure; or the line of a level too many.
 pub enum Reread {
     Stops(usize, usize, usize, usize),
-    Ends(usize, usize, usize),
-    Fails(reading::FailureRecord),
+    Ends(usize, usize, line::State),
+    Fails(lines::FailureRecord),
     TooDeep(usize),
 }
 
-// The lines of an edited text read again from line i on, which starts at byte `base`, up to the stop rule: nothing is written.
-pub fn reread_lines(
+// The lines of a text that begins at byte `base` of the whole, with line i and token `first`, read from a state on, up to the stop rule
+// against the old records from `from` on; where the pass writes, their records. A text that is read to its end keeps nothing: `kept` is
+// then the end of it.
+pub fn read_on(
     class: &[u8; 256],
     reach: &[u8; 768],
     index: &[u8; 256],
     signs: &[u8; 451],
     keywords: &[u8; 539],
-    rest: &[u8],
-    lines: &[u32],
+    text: &[u8],
     base: usize,
-    i: usize,
+    old: &[u32],
     m: usize,
+    from: usize,
     b: usize,
     kept: usize,
+    lines: &mut [u32],
+    tokens: &mut [u32],
+    write: bool,
+    i: usize,
+    first: usize,
     widths: &mut [u32],
-    first: line::State,
+    start: line::State,
 ) -> Reread
     requires { ⌜ now class ≡ classTable ⌝ }
     requires { ⌜ now reach ≡ reachTable ⌝ }
     requires { ⌜ now index ≡ signIndexTable ⌝ }
     requires { ⌜ now signs ≡ signTable ⌝ }
     requires { ⌜ now keywords ≡ keywordTable ⌝ }
-    requires { ⌜ (base + length (now rest) ≤ 1_048_576) × ((i ≤ base) × ((i ≤ m) × (b ≤ 4_294_967_295))) ⌝ }
-    requires { ⌜ (m ≤ 4_294_967_295) × (21 * (m + 1) ≤ length (now lines)) ⌝ }
-    requires { ⌜ (first .depth ≤ base) × ((first .levels ≤ 16) × (length (now widths) ≡ 16)) ⌝ }
-    ensures { λ r. ⌜ RereadIs (now (rest .entry)) (now (lines .entry)) base i m b kept (stateOf first (now (widths .entry))) r ⌝ }
+    requires { ⌜ (base + length (now text) ≤ 1_048_576) × ((i ≤ base) × ((from ≤ m) × (b ≤ 4_294_967_295))) ⌝ }
+    requires { ⌜ (m ≤ 4_294_967_295) × (21 * (m + 1) ≤ length (now old)) ⌝ }
+    requires { ⌜ (start .depth ≤ base) × ((start .levels ≤ 16) × (length (now widths) ≡ 16)) ⌝ }
+    requires { ⌜ MayPut write (readFrom 16 (stateOf start (now widths)) (linesOf (now text))) (base + length (now text)) kept i first (length (now lines)) (length (now tokens)) ⌝ }
+    ensures { λ r. ⌜ RereadIs (now (text .entry)) (now (old .entry)) base i m from b kept (stateOf start (now (widths .entry))) r ⌝ }
+    ensures { λ r. ⌜ EndsIn (readFrom 16 (stateOf start (now (widths .entry))) (linesOf (now (text .entry)))) (now (widths .exit)) r ⌝ }
+    ensures { λ _. ⌜ now (lines .exit) ≡ putIf write (now (lines .entry)) (21 * i) (lineRecords base first (linesRead (readFrom 16 (stateOf start (now (widths .entry))) (linesOf (now (text .entry)))))) ⌝ }
+    ensures { λ _. ⌜ now (tokens .exit) ≡ putIf write (now (tokens .entry)) (5 * first) (tokenRecords base (i + 1) (linesRead (readFrom 16 (stateOf start (now (widths .entry))) (linesOf (now (text .entry)))))) ⌝ }
 {
-    let mut no_lines: [u32; 1] = [0];
-    let mut no_tokens: [u32; 1] = [0];
     let mut q: usize = 0;
     let mut c: usize = 0;
     let mut k: usize = 0;
-    let mut j = i;
-    let mut s = first;
-    while q < rest.len() {
-        j = old_line(lines, m, j, b, kept, base + q);
-        if stops_at(lines, j, b, kept, base + q, s, widths) {
+    let mut j = from;
+    let mut s = start;
+    while q < text.len() {
+        j = old_line(old, m, j, b, kept, base + q);
+        if stops_at(old, j, b, kept, base + q, s, widths) {
             return Reread::Stops(c, k, q, j);
         }
-        match reading::next_line(
+        match lines::next_line(
             class,
             reach,
             index,
             signs,
             keywords,
-            rest,
+            text,
             q,
             base,
-            &mut no_lines,
-            &mut no_tokens,
-            false,
+            lines,
+            tokens,
+            write,
             i + c,
-            0,
+            first + k,
             widths,
             s,
         ) {
-            reading::Step::Reads(next, n, z) => {
+            lines::Step::Reads(next, n, z) => {
                 q = next;
                 c += 1;
                 k += n;
                 s = z;
             }
-            reading::Step::Fails(f) => {
+            lines::Step::Fails(f) => {
                 return Reread::Fails(f);
             }
-            reading::Step::TooDeep => {
+            lines::Step::TooDeep => {
                 return Reread::TooDeep(i + c + 1);
             }
         }
     }
-    Reread::Ends(c, k, s.levels)
+    Reread::Ends(c, k, s)
 }
 
-// The first `count` lines of a text that begins at byte `base`, written: their records from record i on, their tokens from token k
+// The lines of a text that begins at byte `base` of the whole, written: their records from record i on, their tokens from token `first`
 // on; the state after them.
 pub fn rewrite_lines(
     class: &[u8; 256],
@@ -201,63 +210,50 @@ pub fn rewrite_lines(
     index: &[u8; 256],
     signs: &[u8; 451],
     keywords: &[u8; 539],
-    rest: &[u8],
+    text: &[u8],
+    base: usize,
     lines: &mut [u32],
     tokens: &mut [u32],
-    base: usize,
     i: usize,
-    k: usize,
-    count: usize,
+    first: usize,
     widths: &mut [u32],
-    first: line::State,
+    start: line::State,
 ) -> line::State
     requires { ⌜ now class ≡ classTable ⌝ }
     requires { ⌜ now reach ≡ reachTable ⌝ }
     requires { ⌜ now index ≡ signIndexTable ⌝ }
     requires { ⌜ now signs ≡ signTable ⌝ }
     requires { ⌜ now keywords ≡ keywordTable ⌝ }
-    requires { ⌜ (base + length (now rest) ≤ 1_048_576) × (i ≤ base) ⌝ }
-    requires { ⌜ (first .depth ≤ base) × ((first .levels ≤ 16) × (length (now widths) ≡ 16)) ⌝ }
-    requires { ⌜ RoomFrom (readFirst count (stateOf first (now widths)) (now rest)) count i k (length (now lines)) (length (now tokens)) ⌝ }
-    ensures { λ r. ⌜ Reaches (readFirst count (stateOf first (now (widths .entry))) (now (rest .entry))) (stateOf r (now (widths .exit))) × (r .levels ≤ 16) ⌝ }
-    ensures { λ _. ⌜ now (lines .exit) ≡ sets (now (lines .entry)) (21 * i) (lineRecords base k (linesRead (readFirst count (stateOf first (now (widths .entry))) (now (rest .entry))))) ⌝ }
-    ensures { λ _. ⌜ now (tokens .exit) ≡ sets (now (tokens .entry)) (5 * k) (tokenRecords base (i + 1) (linesRead (readFirst count (stateOf first (now (widths .entry))) (now (rest .entry))))) ⌝ }
+    requires { ⌜ (base + length (now text) ≤ 1_048_576) × (i ≤ base) ⌝ }
+    requires { ⌜ (start .depth ≤ base) × ((start .levels ≤ 16) × (length (now widths) ≡ 16)) ⌝ }
+    requires { ⌜ RoomFrom (readFrom 16 (stateOf start (now widths)) (linesOf (now text))) i first (length (now lines)) (length (now tokens)) ⌝ }
+    ensures { λ r. ⌜ Reaches (readFrom 16 (stateOf start (now (widths .entry))) (linesOf (now (text .entry)))) (stateOf r (now (widths .exit))) × (r .levels ≤ 16) ⌝ }
+    ensures { λ _. ⌜ now (lines .exit) ≡ sets (now (lines .entry)) (21 * i) (lineRecords base first (linesRead (readFrom 16 (stateOf start (now (widths .entry))) (linesOf (now (text .entry)))))) ⌝ }
+    ensures { λ _. ⌜ now (tokens .exit) ≡ sets (now (tokens .entry)) (5 * first) (tokenRecords base (i + 1) (linesRead (readFrom 16 (stateOf start (now (widths .entry))) (linesOf (now (text .entry)))))) ⌝ }
 {
-    let mut q: usize = 0;
-    let mut c: usize = 0;
-    let mut t = k;
-    let mut s = first;
-    while c < count {
-        match reading::next_line(
-            class,
-            reach,
-            index,
-            signs,
-            keywords,
-            rest,
-            q,
-            base,
-            lines,
-            tokens,
-            true,
-            i + c,
-            t,
-            widths,
-            s,
-        ) {
-            reading::Step::Reads(next, n, z) => {
-                q = next;
-                c += 1;
-                t += n;
-                s = z;
-            }
-            reading::Step::Fails(_) => {
-                return s;
-            }
-            reading::Step::TooDeep => {
-                return s;
-            }
-        }
+    let none: [u32; 21] = [0; 21];
+    match read_on(
+        class,
+        reach,
+        index,
+        signs,
+        keywords,
+        text,
+        base,
+        &none,
+        0,
+        0,
+        0,
+        base + text.len(),
+        lines,
+        tokens,
+        true,
+        i,
+        first,
+        widths,
+        start,
+    ) {
+        Reread::Ends(_, _, s) => s,
+        _ => start,
     }
-    s
 }

@@ -23,8 +23,8 @@ use Rattle.rules.proofs.RecordLaws.{fresh-sizes}
 use Rattle.rules.proofs.PageLaws.{FreshCases, long, illFormed, lines, fresh-cases, fresh-inverse}
 use Rattle.rules.proofs.BoundLaws.{AllLe, wordMax, fresh-small}
 use Rattle.rules.proofs.FailureLaws.{failure-placed}
-use Rattle.reading.specs.declared.FailureRecord.{FailureRecord}
-use Rattle.reading.specs.Passes.{recordIn}
+use Rattle.lines.specs.declared.FailureRecord.{FailureRecord}
+use Rattle.lines.specs.Steps.{recordIn}
 use Rattle.reading.specs.Answers.{failureNumbers}
 use Rattle.reading.proofs.Fills.{overwritten}
 use Rattle.message.specs.Messages.{Room, Put}

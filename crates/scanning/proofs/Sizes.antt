@@ -12,7 +12,7 @@ use Rattle.rules.specs.Report.{decimal}
 use Rattle.rules.specs.Scan.{pageRow, tokenRow, tokenRows, refusedRow}
 use Rattle.rules.proofs.BoundLaws.{AllLe, wordMax}
 use Rattle.print.proofs.Prints.{places-le}
-use Rattle.reading.specs.declared.FailureRecord.{FailureRecord}
+use Rattle.lines.specs.declared.FailureRecord.{FailureRecord}
 use Rattle.message.specs.Messages.{Room}
 use Rattle.message.proofs.Fields.{concat-one}
 use Rattle.message.proofs.Details.{length-decimal}

@@ -70,7 +70,7 @@ fn put_page(out: &mut [u8], tokens: &[u32], n: usize, m: usize, k: usize) -> usi
 }
 
 // The message of a failure, and LF.
-fn put_failure(out: &mut [u8], text: &[u8], f: reading::FailureRecord) -> usize
+fn put_failure(out: &mut [u8], text: &[u8], f: lines::FailureRecord) -> usize
     requires { ⌜ Printable (now text) f ⌝ }
     requires { ⌜ Room true (now out) 0 (messageIn (now text) f ∷ ascii "\n" ∷ []) ⌝ }
     ensures { λ r. ⌜ Put true (now (out .entry)) 0 (messageIn (now (text .entry)) f ∷ ascii "\n" ∷ []) (now (out .exit)) r ⌝ }

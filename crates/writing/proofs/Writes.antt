@@ -1,17 +1,17 @@
 -- What the writes of a plan come to.
 -- Assumes nothing.
-use Prim.Native.Nat.{ℕ, _+_, _*_, _≤_}
+use Prim.Native.Nat.{ℕ, zero, suc, _+_, _-_, _*_, _≤_}
 use mathlib.Core.Path.{_≡_, refl, sym, ap, _∙_}
 use mathlib.Core.Bool.{Bool, true, false}
 use mathlib.Core.List.{List, [], _∷_, _++_}
 use native.Mathlib.Omega.{arith}
 use lib.ListN.{length, take, drop, length-append, length-drop, length-replicate, take-append-drop}
-use lib.Seq.{sets, length-take-le}
+use lib.Seq.{sets, length-take-le, take-nil}
 use Rattle.rules.specs.Line.{State, tokenAt, dedents}
-use Rattle.rules.specs.Reading.{linesOf, Reading, reads, halts, linesRead, tokenSum}
+use Rattle.rules.specs.Reading.{Line, isLF, onto, linesOf, Reading, reads, halts, linesRead, tokenSum}
 use Rattle.rules.specs.Replies.{maxLevels}
 use Rattle.rules.specs.Records.{lineRecord, lineRecords, tokenWords, tokenRecords, endEntry, withEnd}
-use Rattle.rules.proofs.LineLaws.{total, total-append, total-lines}
+use Rattle.rules.proofs.LineLaws.{total, next, total-append, total-lines}
 use Rattle.rules.proofs.ReadingLaws.{read-sizes, tokenSum-append}
 use Rattle.rules.proofs.RecordLaws.{length-lineRecords, length-tokenRecords}
 use Rattle.laws.specs.Puts.{putIf}
@@ -45,6 +45,21 @@ pub record Reached (R : Reading) (s : line-state.State) (ws : List ℕ) : Type 0
   pub wide : length ws ≡ 16
   pub is : Reaches R (stateOf s ws)
 
+-- The first lines of a text are the lines of its first bytes.
+
+first-next : (q : Bool) (b : ℕ) (bs : List ℕ) (ls : List Line) (c : ℕ) → ((c : ℕ) → linesOf (take (total (take c ls)) bs) ≡ take c ls)
+    → (n : ℕ) × (total (take (suc c) (next q b ls)) ≡ suc n) × (next q b (linesOf (take n bs)) ≡ take (suc c) (next q b ls))
+unfolding linesOf onto
+first-next true b bs ls c ih = (total (take c ls), omega arith, ap (λ (x : List Line). (b ∷ []) ∷ x) (ih c))
+first-next false b bs [] c ih = (0, omega (arith, ap total (take-nil c)), ap (λ (x : List Line). (b ∷ []) ∷ x) (sym (take-nil c)))
+first-next false b bs (l ∷ ls) c ih = (length l + total (take c ls), omega arith, ap (onto b) (ih (suc c)))
+
+first-lines : (t : List ℕ) (c : ℕ) → linesOf (take (total (take c (linesOf t))) t) ≡ take c (linesOf t)
+unfolding linesOf
+first-lines [] c = ap linesOf (take-nil (total (take c []))) ∙ sym (take-nil c)
+first-lines (b ∷ bs) zero = refl
+first-lines (b ∷ bs) (suc c) = let x = first-next (isLF b) b bs (linesOf bs) c (first-lines bs) in ap (λ (n : ℕ). linesOf (take n (b ∷ bs))) (x .1) ∙ x .2
+
 -- What a plan reads.
 
 module _ {u lines : List ℕ} {m k : ℕ} {p : Plan} (pl : Planned u lines m k p) where
@@ -63,6 +78,18 @@ module _ {u lines : List ℕ} {m k : ℕ} {p : Plan} (pl : Planned u lines m k p
           let w : total (linesOf rest) ≡ total (take (p .count) (linesOf rest)) + total (drop (p .count) (linesOf rest)) =
           ap total (sym (take-append-drop (p .count) (linesOf rest))) ∙ total-append (take (p .count) (linesOf rest)) (drop (p .count) (linesOf rest)) in
           omega (arith, r .2, s .1, w, total-lines rest, length-drop (p .base) u, pl .base-le)
+
+  -- the lines read again are those of the bytes from `base` to `new`
+  pub part-lines : (p .base ≤ p .new) × (linesOf (take (p .new - p .base) (drop (p .base) u)) ≡ take (p .count) (linesOf (drop (p .base) u)))
+  part-lines = go R refl (pl .reads-as)
+    where
+      go : (x : Reading) → R ≡ x → ReadsAs p x → (p .base ≤ p .new) × (linesOf (take (p .new - p .base) (drop (p .base) u)) ≡ take (p .count) (linesOf (drop (p .base) u)))
+      go (halts es h) e r = absurd r
+      go (reads es z) e r =
+          let rest : List ℕ = drop (p .base) u in
+          let s = read-sizes maxLevels (stateFrom lines (p .i)) (take (p .count) (linesOf rest)) es z e in
+          let n : p .new - p .base ≡ total (take (p .count) (linesOf rest)) = omega (arith, r .2, s .1) in
+          (omega (arith, r .2), ap (λ (n : ℕ). linesOf (take n rest)) n ∙ first-lines rest (p .count))
 
   -- at least as many records are written as lines are read
   pub counts : (p .count ≤ p .lines) × (p .read ≤ p .tokens)
@@ -94,13 +121,13 @@ module _ {u lines : List ℕ} {m k : ℕ} {p : Plan} (pl : Planned u lines m k p
       }
 
   -- room for the lines read again
-  pub room-from : (linesLen tokensLen : ℕ) → Roomy m k linesLen tokensLen p → RoomFrom R (p .count) (p .i) (p .first) linesLen tokensLen
+  pub room-from : (linesLen tokensLen : ℕ) → Roomy m k linesLen tokensLen p → RoomFrom R (p .i) (p .first) linesLen tokensLen
   room-from linesLen tokensLen r = go R refl (pl .reads-as)
     where
-      go : (x : Reading) → R ≡ x → ReadsAs p x → RoomFrom x (p .count) (p .i) (p .first) linesLen tokensLen
+      go : (x : Reading) → R ≡ x → ReadsAs p x → RoomFrom x (p .i) (p .first) linesLen tokensLen
       go (halts es h) e x = absurd x
       go (reads es z) e x =
-          (x .0, (omega (arith, r .line-room, counts .0), (omega (arith, r .token-room, counts .1, x .1), omega (arith, r .few, counts .1, x .1))))
+          (omega (arith, r .line-room, counts .0, x .0), (omega (arith, r .token-room, counts .1, x .1), omega (arith, r .few, counts .1, x .1)))
 
   -- and for the end, where the plan ends there
   pub room-end : (linesLen tokensLen : ℕ) → Roomy m k linesLen tokensLen p → (z : State) → Reaches R z → (levels : ℕ) → length (z .widths) ≡ levels → p .ends ≡ true
@@ -130,7 +157,7 @@ module _ {u lines : List ℕ} {m k : ℕ} {p : Plan} (pl : Planned u lines m k p
         go (halts es y) x q f b eb g = absurd x
         go (reads es y) x q f false eb g = g ∙ f
         go (reads es y) x q f true eb g =
-            more-lines (p .base) (p .i) (p .first) es (endEntry y) (p .count) (p .new) (p .first + p .read) (x .0) (x .2) (ap (λ (n : ℕ). p .first + n) (x .1)) l₁ l₂ l₃ f
+            more-lines true (p .base) (p .i) (p .first) es (endEntry y) (p .count) (p .new) (p .first + p .read) (x .0) (x .2) (ap (λ (n : ℕ). p .first + n) (x .1)) l₁ l₂ l₃ f
             (g ∙ ap (λ (s : State). sets l₂ (21 * (p .i + p .count)) (lineRecord (p .new) (p .first + p .read) s)) q)
 
     pub tokens-put : (levels : ℕ) → length (z .widths) ≡ levels → l₂ ≡ sets l₁ (5 * p .first) (tokenRecords (p .base) (p .i + 1) (linesRead R))
@@ -144,7 +171,7 @@ module _ {u lines : List ℕ} {m k : ℕ} {p : Plan} (pl : Planned u lines m k p
         go (halts es y) x q f b eb g = absurd x
         go (reads es y) x q f false eb g = g ∙ f
         go (reads es y) x q f true eb g =
-            more-tokens (p .base) (p .i) (p .first) es (endEntry y) (p .count) (p .new) (p .first + p .read) (x .0) (x .2) (ap (λ (n : ℕ). p .first + n) (x .1)) l₁ l₂ l₃ f
+            more-tokens true (p .base) (p .i) (p .first) es (endEntry y) (p .count) (p .new) (p .first + p .read) (x .0) (x .2) (ap (λ (n : ℕ). p .first + n) (x .1)) l₁ l₂ l₃ f
             (g ∙ ap (λ (n : ℕ). sets l₂ (5 * (p .first + p .read)) (tokenWords (p .new) (p .i + p .count + 1) (dedents n))) (sym hl ∙ ap (λ (s : State). length (s .widths)) q))
 
   -- how many records that is
@@ -171,7 +198,7 @@ module _ {u lines : List ℕ} {m k : ℕ} {p : Plan} (pl : Planned u lines m k p
       f ∙ ap (λ (x : List ℕ). sets x (5 * p .first) new) (e ∙ ap (λ (n : ℕ). sets l n moved) at) ∙ sets-before new moved l (5 * p .first)
 
   -- room as the code has it, after the moves
-  pub room-moved : {x : Reading} {nl nt ll tl : ℕ} → x ≡ R → nl ≡ ll → nt ≡ tl → Roomy m k ll tl p → RoomFrom x (p .count) (p .i) (p .first) nl nt
+  pub room-moved : {x : Reading} {nl nt ll tl : ℕ} → x ≡ R → nl ≡ ll → nt ≡ tl → Roomy m k ll tl p → RoomFrom x (p .i) (p .first) nl nt
   room-moved {ll = ll} {tl = tl} e el et r = rw (e, el, et) (room-from ll tl r)
 
   -- the same with the code's state and its widths

@@ -21,7 +21,7 @@ fn put_end(lines: &mut [u32], tokens: &mut [u32], p: planning::Plan, s: line::St
 {
     let line = p.i + p.count;
     let token = p.first + p.read;
-    reading::put_line(lines, p.ends, line, p.new as u32, token as u32, s, widths);
+    lines::put_line(lines, p.ends, line, p.new as u32, token as u32, s, widths);
     line::put_dedents(
         tokens,
         p.ends,
@@ -75,19 +75,19 @@ pub fn write_records(
     let signs = spelling::sign_table();
     let keywords = spelling::keyword_table();
     let base = p.base;
+    let end = p.new;
     let z = rereading::rewrite_lines(
         &class,
         &reach,
         &index,
         &signs,
         &keywords,
-        &edited[base..],
+        &edited[base..end],
+        base,
         lines,
         tokens,
-        base,
         p.i,
         p.first,
-        p.count,
         &mut widths,
         s,
     );

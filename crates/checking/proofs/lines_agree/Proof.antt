@@ -11,7 +11,7 @@ use lib.ListN.{length, take, drop, length-drop}
 use Rattle.rules.specs.Reading.{notLF, lineAt, sizeAt}
 use Rattle.rules.proofs.ListLaws.{run-le}
 use Rattle.line.specs.declared.State.{State}
-use Rattle.reading.proofs.Lines.{small, size-inside, line-inside, next-start, slice-is}
+use Rattle.lines.proofs.Lines.{small, size-inside, line-inside, next-start, slice-is}
 use Rattle.checking.specs.declared.SameLine.the-variants.{Agrees}
 use Rattle.checking.proofs.Lines.{AgreesTo, agrees-start, other-record, other-line, next-line, other-count, other-total, end-is}
 use Rattle.checking.proofs.lines_agree.Statement.{statement}
@@ -42,7 +42,7 @@ module _ (l : tie.At-loop Inv-loop μ-loop) where
 
   far : (l .loop .p ≤ 1_048_576) × (l .loop .m ≤ 1_048_576) × (l .loop .k + l .loop .s .levels ≤ 2_097_152) × (l .loop .s .depth ≤ 4_194_304)
   far =
-      let b = small text false [] [] (so-far .pass) few-bytes in
+      let b = small (so-far .pass) few-bytes in
       (omega (arith, so-far .pass .inside, few-bytes), omega (arith, b .0, so-far .pass .inside, few-bytes), omega (arith, b .1, so-far .pass .inside, few-bytes), b .2)
 
   same-widths : length (l .loop .widths) ≡ length (start .args .widths .now)
@@ -140,7 +140,7 @@ line-agrees-requires c κs =
     let l = here e in
     let p = start l .pre in
     let v = so-far l .pass in
-    (p .0, (p .1 .0, (p .1 .1 .0, (p .1 .1 .1 .0, (p .1 .1 .1 .1 .0, ((omega (arith, ap length (line-is e), line-inside (text l) false [] [] v (more e), few-bytes l), (far l .3, omega (arith, far l))), (v .wide, v .few)))))))
+    (p .0, (p .1 .0, (p .1 .1 .0, (p .1 .1 .1 .0, (p .1 .1 .1 .1 .0, ((omega (arith, ap length (line-is e), line-inside v (more e), few-bytes l), (far l .3, omega (arith, far l))), (v .wide, v .few)))))))
 
 enum-known-n : tie.Need-enum-known-n Inv-loop μ-loop
 enum-known-n c = search needs
@@ -149,7 +149,7 @@ add-k : tie.Need-add-k Inv-loop μ-loop
 add-k c =
     let l = at-line (agreed-at c) in
     let v = next (agreed-at c) _ _ (c .before .n .given .1) _ refl .pass in
-    omega (arith, small (text l) false [] [] v (few-bytes l) .1, v .inside, few-bytes l)
+    omega (arith, small v (few-bytes l) .1, v .inside, few-bytes l)
 
 add-m : tie.Need-add-m Inv-loop μ-loop
 add-m c = omega (arith, far (at-line (agreed-at c)))
@@ -166,7 +166,7 @@ byte-now c =
 loop-less : tie.Need-loop-less Inv-loop μ-loop
 loop-less c =
     let e = ended (agreed-at (c .before)) in
-    let size = size-inside (text (here e)) false [] [] (so-far (here e) .pass) (more e) in
+    let size = size-inside (so-far (here e) .pass) (more e) in
     omega (arith, byte-now c, size .0, size .1, more e)
 
 loop-again : tie.Need-loop-again Inv-loop μ-loop

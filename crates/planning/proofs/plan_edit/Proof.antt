@@ -121,7 +121,7 @@ plan-end-requires : tie.Need-plan-end-requires
 plan-end-requires c κs =
     let x = c .before .before .before in
     let g = begun-of x in
-    let v = end-small (ok x) g (given x (c .before .c2 .given .1)) in
+    let v = end-small (ok x) g (c .before .c2 .given .0 .1 .1 .0) (given x (c .before .c2 .given .1)) in
     ((g .within, (g .m-le, ok x .fits .lines)), (g .usable .first, (g .k-le, (v .0, v .1))))
 
 enum-known-f : tie.Need-enum-known-f
@@ -142,7 +142,7 @@ returns-3 c =
     let x = c .before .before .before .before in
     let s = start (branch x) in
     let m = c .before .before .c2 in
-    rw (c .plan-end .ensures, s .pre .1 .1) (end-plan (ok x) (begun-of x) (given x (m .given .1)) (omega (arith, s .fits)))
+    rw (c .plan-end .ensures, s .pre .1 .1) (end-plan (ok x) (begun-of x) (m .given .0 .1 .1 .0) (given x (m .given .1)) (omega (arith, s .fits)))
 
 returns-4 : tie.Need-returns-4
 returns-4 c = let x = c .before .before .before in fail-plan (ok x) (begun-of x) (given x (c .before .f .given .1))

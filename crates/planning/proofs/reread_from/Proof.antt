@@ -1,14 +1,14 @@
--- `planning::reread_from` meets its contract: the tables and the old line's state are those that reading again asks for.
+-- `planning::reread_from` meets its contract: the tables and the old line's state are those that reading on asks for.
 -- Assumes nothing.
 use Prim.Native.Nat.{ℕ, _+_, _-_, _*_, _≤_}
 use mathlib.Core.Path.{_≡_, refl, sym, ap, subst, _∙_}
+use mathlib.Core.Bool.{false≢true}
 use mathlib.Core.List.{List}
 use native.Mathlib.Omega.{arith}
 use lib.ListN.{length, drop, length-drop, length-take}
 use lib.Seq.{take-all}
 use borrow.Author.Needs.{needs}
 use Rattle.rules.specs.Line.{State}
-use Rattle.rereading.specs.Rereads.{RereadIs}
 use Rattle.planning.specs.Starts.{lineWord}
 use Rattle.planning.proofs.reread_from.Statement.{statement}
 use Rattle.planning.proofs.reread_from.Tie as tie
@@ -59,21 +59,27 @@ shared-slice-read-base c = let p = start (c .before .before) .pre .0 in omega (a
 cast-base : tie.Need-cast-base
 cast-base c = omega (arith, c .shared-slice-known3 .given (21 * start (c .before .before) .args .i + 0))
 
-sub-reread-lines : tie.Need-sub-reread-lines
-sub-reread-lines c = start (c .before .before .before .before .before .before .before) .pre .1 .1 .0
+sub-read-on : tie.Need-sub-read-on
+sub-read-on c = search needs
 
-part-reread-lines-start : tie.Need-part-reread-lines-start
-part-reread-lines-start c = start (c .before .before .before .before .before .before .before) .pre .1 .1 .0
+part-read-on-start : tie.Need-part-read-on-start
+part-read-on-start c = search needs
 
-part-reread-lines-end : tie.Need-part-reread-lines-end
-part-reread-lines-end c = search needs
+part-read-on-end : tie.Need-part-read-on-end
+part-read-on-end c = search needs
 
-slice-aggregate-reread-lines : tie.Need-slice-aggregate-reread-lines
-slice-aggregate-reread-lines c = search needs
+slice-aggregate-read-on : tie.Need-slice-aggregate-read-on
+slice-aggregate-read-on c = search needs
 
-reread-lines-requires : tie.Need-reread-lines-requires
-reread-lines-requires c κs =
-    let l = c .before .before .before .before .before .before .before .before .before in
+slice-aggregate-read-on-2 : tie.Need-slice-aggregate-read-on-2
+slice-aggregate-read-on-2 c = search needs
+
+slice-aggregate-read-on-3 : tie.Need-slice-aggregate-read-on-3
+slice-aggregate-read-on-3 c = search needs
+
+read-on-requires : tie.Need-read-on-requires
+read-on-requires c κs =
+    let l = c .before .before .before .before .before .before .before .before .before .before .before in
     let t = l .before .before in
     let s = start l in
     let E = s .args .edited .now in
@@ -92,7 +98,13 @@ reread-lines-requires c κs =
                   omega (arith, length-take (length E - base l) (drop (base l) E), length-drop (base l) E, s .pre .1 .1 .1 .0, s .pre .1 .1 .0),
                   (s .pre .1 .0 .0, (s .pre .0 .1 .0, s .pre .1 .1 .1 .1)),
                 ),
-                (s .pre .0 .1 .1, (omega (arith, d, s .pre .1 .0 .1 .0), (l .load-state .ensures .1, l .load-state .kept .1 .1 .0))),
+                (
+                  s .pre .0 .1 .1,
+                  (
+                    (omega (arith, d, s .pre .1 .0 .1 .0), (l .load-state .ensures .1, l .load-state .kept .1 .1 .0)),
+                    record { ends = λ e. absurd (false≢true e); room = λ e. absurd (false≢true e); counts = λ e. refl },
+                  ),
+                ),
               ),
             ),
           ),
@@ -102,12 +114,12 @@ reread-lines-requires c κs =
 
 returns : tie.Need-returns
 returns c =
-    let r = c .before in
-    let l = r .before .before .before .before .before .before .before .before .before .before in
+    let r = c .before .before .before in
+    let l = r .before .before .before .before .before .before .before .before .before .before .before .before in
     let s = start l in
     let E = s .args .edited .now in
     let rest = take-all (length E - base l) (drop (base l) E) (omega (arith, length-drop (base l) E)) in
-    rw (rest, l .load-state .ensures .0) at (r .reread-lines .ensures)
+    rw (rest, l .load-state .ensures .0) at (r .read-on .ensures .0)
 
 pub reread-from-spec : {M : Type 1} → statement M
 reread-from-spec =
@@ -125,9 +137,11 @@ reread-from-spec =
     mul-base-2
     shared-slice-read-base
     cast-base
-    sub-reread-lines
-    part-reread-lines-start
-    part-reread-lines-end
-    slice-aggregate-reread-lines
-    reread-lines-requires
+    sub-read-on
+    part-read-on-start
+    part-read-on-end
+    slice-aggregate-read-on
+    slice-aggregate-read-on-2
+    slice-aggregate-read-on-3
+    read-on-requires
     returns)

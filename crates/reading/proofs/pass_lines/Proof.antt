@@ -1,272 +1,199 @@
--- `reading::pass_lines` meets its contract. So far the lines before byte p are read and written.
+-- `reading::pass_lines` meets its contract: all lines are read on, then the end is written.
 -- Assumes nothing.
-use Prim.Native.Nat.{ℕ, _+_, _-_, _*_, _≤_, _<_}
-use mathlib.Core.Path.{_≡_, refl, sym, subst, _∙_}
-use mathlib.Core.Bool.{true}
+use Prim.Native.Nat.{ℕ, _+_, _≤_}
+use mathlib.Core.Path.{_≡_, refl, subst, _∙_}
+use mathlib.Core.Bool.{Bool, true}
 use mathlib.Core.List.{List}
 use native.Mathlib.Omega.{arith}
 use borrow.Author.Needs.{needs}
-use lib.ListN.{length}
-use Rattle.rules.specs.Line.{initial, readLine}
-use Rattle.rules.specs.Reading.{linesOf, readFrom, lineAt, sizeAt}
+use lib.ListN.{length, replicate}
+use Rattle.rules.specs.Line.{initial}
+use Rattle.rules.specs.Reading.{linesOf, readFrom}
 use Rattle.line.specs.declared.State.{State}
-use Rattle.line.specs.States.{stateOf}
+use Rattle.rereading.specs.declared.Reread.{Reread}
+use Rattle.rereading.specs.declared.Reread.the-variants.{Ends}
+use Rattle.rereading.specs.Rereads.{RereadIs}
+use Rattle.rereading.specs.Rewrites.{EndsIn}
 use Rattle.reading.specs.Passes.{RoomIn}
-use Rattle.reading.specs.declared.Step.{Step}
-use Rattle.reading.specs.declared.Step.the-variants as step
-use Rattle.reading.specs.Steps.{StepIs}
-use Rattle.reading.proofs.Lines.{PassTo, pass-start, same-lines, same-tokens, small, size-inside, line-room, room-next, step-reads, step-fails, step-deep, end-room, end-pass}
+use Rattle.reading.proofs.Lines.{EndOf, end-of, end-small, may-pass, end-room, failed-pass, deep-pass, end-pass}
 use Rattle.reading.proofs.pass_lines.Statement.{statement}
 use Rattle.reading.proofs.pass_lines.Tie as tie
 
-abbrev Inv-loop : tie.InvT-loop
-Inv-loop class reach index signs keywords text lines₀ tokens₀ write widths₀ p₀ m₀ k₀ s₀ lines tokens widths p m k s = PassTo text write lines₀ tokens₀ lines tokens widths p m k s
-
-abbrev μ-loop : tie.MeasureT-loop
-μ-loop class reach index signs keywords text lines₀ tokens₀ write widths₀ p₀ m₀ k₀ s₀ lines tokens widths p m k s = length text - p
-
--- The loop, with what the function was called with.
-module _ (l : tie.At-loop Inv-loop μ-loop) where
-  abbrev start : tie.Start Inv-loop μ-loop
-  start = l .before .before .before .before .before
-
+-- What the function was called with.
+module _ (s : tie.Start) where
   abbrev text : List ℕ
-  text = start .args .text .now
-
-  abbrev lines₀ : List ℕ
-  lines₀ = start .args .lines .now
-
-  abbrev tokens₀ : List ℕ
-  tokens₀ = start .args .tokens .now
-
-  abbrev so-far : PassTo text (start .args .write) lines₀ tokens₀ (l .loop .lines) (l .loop .tokens) (l .loop .widths) (l .loop .p) (l .loop .m) (l .loop .k) (l .loop .s)
-  so-far = l .loop .inv
+  text = s .args .text .now
 
   few-bytes : length text ≤ 1_048_576
-  few-bytes = start .pre .1 .1 .1 .1 .1 .0 .0
+  few-bytes = s .pre .1 .1 .1 .1 .1 .0 .0
 
-  room : start .args .write ≡ true → RoomIn (readFrom 16 initial (linesOf text)) (length lines₀) (length tokens₀)
-  room = start .pre .1 .1 .1 .1 .1 .1
+  room : s .args .write ≡ true → RoomIn (readFrom 16 initial (linesOf text)) (length (s .args .lines .now)) (length (s .args .tokens .now))
+  room = s .pre .1 .1 .1 .1 .1 .1
 
-  abbrev far : (l .loop .m ≤ l .loop .p) × (l .loop .k + l .loop .s .levels ≤ 2 * l .loop .p) × (l .loop .s .depth ≤ 4_194_304)
-  far = small text (start .args .write) lines₀ tokens₀ so-far few-bytes
+-- The place after reading on, and what that gave.
+module _ (r : tie.After-read-on) where
+  abbrev start : tie.Start
+  start = r .before .before .before .before .before .before .before .before .before
 
--- The place after the next line.
-module _ (n : tie.After-next-line Inv-loop μ-loop) where
-  abbrev here : tie.At-loop Inv-loop μ-loop
-  here = n .before .before .before .before .before
+  abbrev lines-now : List ℕ
+  lines-now = r .read-on .last .1 .1 .1 .1 .1 .1 .1 .1 .1 .1 .1 .1 .0
 
-  abbrev more : here .loop .p < length (text here)
-  more = n .before .before .before .before .loop-test .taken
+  abbrev tokens-now : List ℕ
+  tokens-now = r .read-on .last .1 .1 .1 .1 .1 .1 .1 .1 .1 .1 .1 .1 .1 .0
 
-  -- what it gave
-  gave : (r : Step) → n .next-line .result ≡ r
-      → StepIs (n .next-line .last .1 .1 .1 .1 .1 .1 .1 .1 .1 .1 .1 .1 .1 .0) (0 + here .loop .p) (here .loop .m + 1) (here .loop .p + sizeAt (text here) (here .loop .p)) (readLine 16 (stateOf (here .loop .s) (here .loop .widths)) (lineAt (text here) (here .loop .p))) r
-  gave r e = subst (StepIs (n .next-line .last .1 .1 .1 .1 .1 .1 .1 .1 .1 .1 .1 .1 .1 .0) (0 + here .loop .p) (here .loop .m + 1) (here .loop .p + sizeAt (text here) (here .loop .p)) (readLine 16 (stateOf (here .loop .s) (here .loop .widths)) (lineAt (text here) (here .loop .p)))) e (n .next-line .ensures .0)
+  abbrev widths-now : List ℕ
+  widths-now = r .read-on .last .1 .1 .1 .1 .1 .1 .1 .1 .1 .1 .1 .1 .1 .1 .1 .1 .1 .0
 
-  same-lines-now : length (n .next-line .last .1 .1 .1 .1 .1 .1 .1 .1 .0) ≡ length (lines₀ here)
-  same-lines-now = n .next-line .kept .1 .1 .1 .1 .1 .1 .1 .1 .0 ∙ same-lines (text here) (start here .args .write) (lines₀ here) (tokens₀ here) (so-far here)
+  wide : length widths-now ≡ 16
+  wide = r .read-on .kept .1 .1 .1 .1 .1 .1 .1 .1 .1 .1 .1 .1 .1 .1 .1 .1 .1 .0 ∙ start .pre .1 .1 .1 .1 .1 .0 .1
 
-  same-tokens-now : length (n .next-line .last .1 .1 .1 .1 .1 .1 .1 .1 .1 .0) ≡ length (tokens₀ here)
-  same-tokens-now = n .next-line .kept .1 .1 .1 .1 .1 .1 .1 .1 .1 .0 ∙ same-tokens (text here) (start here .args .write) (lines₀ here) (tokens₀ here) (so-far here)
+  abbrev Gave : Reread → Type 0
+  Gave = RereadIs (text start) (replicate 21 0) 0 0 0 0 0 (length (text start)) initial
 
-  wide-now : length (n .next-line .last .1 .1 .1 .1 .1 .1 .1 .1 .1 .1 .1 .1 .1 .0) ≡ 16
-  wide-now = n .next-line .kept .1 .1 .1 .1 .1 .1 .1 .1 .1 .1 .1 .1 .1 .0 ∙ so-far here .wide
+  gave : (y : Reread) → r .read-on .result ≡ y → Gave y
+  gave y e = subst Gave e (r .read-on .ensures .0)
 
-  abbrev next : (q count : ℕ) (s : State) → n .next-line .result ≡ step.Reads q count s
-      → PassTo (text here) (start here .args .write) (lines₀ here) (tokens₀ here) (n .next-line .last .1 .1 .1 .1 .1 .1 .1 .1 .0) (n .next-line .last .1 .1 .1 .1 .1 .1 .1 .1 .1 .0) (n .next-line .last .1 .1 .1 .1 .1 .1 .1 .1 .1 .1 .1 .1 .1 .0) q (here .loop .m + 1) (here .loop .k + count) s
-  next q count s e =
-      step-reads (text here) (start here .args .write) (lines₀ here) (tokens₀ here) (so-far here) more _ _ _ q count s (gave (step.Reads q count s) e) (n .next-line .ensures .1 .0) (n .next-line .ensures .1 .1) wide-now
+  ended : (m k : ℕ) (s : State) → r .read-on .result ≡ Ends m k s → EndOf (text start) widths-now m k s
+  ended m k s e = end-of (replicate 21 0) widths-now m k s (gave (Ends m k s) e) (subst (EndsIn (readFrom 16 initial (linesOf (text start))) widths-now) e (r .read-on .ensures .1 .0)) wide
 
-abbrev read-here : tie.After-known-told Inv-loop μ-loop → tie.After-next-line Inv-loop μ-loop
-read-here c = c .before .before .before .before .before .before .before .before .before
+abbrev read-at : tie.After-known-told → tie.After-read-on
+read-at c = c .before .before .before .before .before .before .before .before .before
 
-abbrev failed-here : tie.After-known-told2 Inv-loop μ-loop → tie.After-next-line Inv-loop μ-loop
-failed-here c = c .before .before .before .before .before .before .before .before .before
+abbrev began : tie.After-known-told → tie.Start
+began c = start (read-at c)
 
-abbrev deep-here : tie.After-enum-told Inv-loop μ-loop → tie.After-next-line Inv-loop μ-loop
-deep-here c = c .before .before .before .before .before .before .before .before
+abbrev end-at : (c : tie.After-known-told) → let x = c .before .m .given .0 in EndOf (text (began c)) (widths-now (read-at c)) (x .0) (x .1 .0) (x .1 .1 .0)
+end-at c = let x = c .before .m .given .0 in ended (read-at c) (x .0) (x .1 .0) (x .1 .1 .0) (c .before .m .given .1)
 
-loop-holds : tie.Need-loop-holds Inv-loop μ-loop
-loop-holds c =
-    let s = c .before .before .before .before in
-    pass-start (s .args .text .now) (s .args .write) (s .args .lines .now) (s .args .tokens .now) (s .args .widths .now) (s .pre .1 .1 .1 .1 .1 .0 .1)
+slice-aggregate-read-on : tie.Need-slice-aggregate-read-on
+slice-aggregate-read-on c = search needs
 
-next-line-requires : tie.Need-next-line-requires Inv-loop μ-loop
-next-line-requires c κs =
-    let l = c .before .before .before .before in
-    let h = c .before .before .before .loop-test .taken in
-    let p = start l .pre in (
-      p .0,
-      (
-        p .1 .0,
-        (
-          p .1 .1 .0,
-          (
-            p .1 .1 .1 .0,
-            (
-              p .1 .1 .1 .1 .0,
-              (
-                (h, (omega (arith, few-bytes l), (omega (arith, far l .0, so-far l .inside, few-bytes l), omega (arith, far l .1, so-far l .inside, few-bytes l)))),
-                ((far l .2, (so-far l .few, so-far l .wide)), λ w. (omega (arith, same-lines (text l) (start l .args .write) (lines₀ l) (tokens₀ l) (so-far l), line-room (text l) (start l .args .write) (lines₀ l) (tokens₀ l) (so-far l) h _ refl (length (lines₀ l)) (length (tokens₀ l)) (room l w)), room-next (text l) (start l .args .write) (lines₀ l) (tokens₀ l) (so-far l) h _ _ (room l w) (sym (same-tokens (text l) (start l .args .write) (lines₀ l) (tokens₀ l) (so-far l))))),
-              ),
-            ),
-          ),
-        ),
-      ),
-    )
+read-on-requires : tie.Need-read-on-requires
+read-on-requires c κs =
+    let s = c .before .before .before .before .before .before .before .before in
+    let p = s .pre in
+    let h = few-bytes s in
+    (p .0, (p .1 .0, (p .1 .1 .0, (p .1 .1 .1 .0, (p .1 .1 .1 .1 .0, ((omega arith, (omega arith, (omega arith, omega arith))), ((omega arith, omega arith), ((omega arith, (omega arith, p .1 .1 .1 .1 .1 .0 .1)), may-pass (text s) h (s .args .write) (s .args .lines .now) (s .args .tokens .now) (room s)))))))))
 
-enum-known-next : tie.Need-enum-known-next Inv-loop μ-loop
-enum-known-next c = search needs
-
-add-k : tie.Need-add-k Inv-loop μ-loop
-add-k c =
-    let l = here (read-here c) in
-    let w = next (read-here c) _ _ _ (c .before .next .given .1) in
-    omega (arith, small (text l) (start l .args .write) (lines₀ l) (tokens₀ l) w (few-bytes l) .1, w .inside, few-bytes l)
-
-add-m : tie.Need-add-m Inv-loop μ-loop
-add-m c =
-    let l = here (read-here c) in
-    omega (arith, far l .0, so-far l .inside, few-bytes l)
-
-loop-less : tie.Need-loop-less Inv-loop μ-loop
-loop-less c =
-    let n = read-here c in
-    let l = here n in
-    let size = size-inside (text l) (start l .args .write) (lines₀ l) (tokens₀ l) (so-far l) (more n) in
-    omega (arith, gave n _ (c .before .next .given .1) .3, size .0, size .1)
-
-loop-again : tie.Need-loop-again Inv-loop μ-loop
-loop-again c = next (read-here c) _ _ _ (c .before .next .given .1)
-
-enum-known-f : tie.Need-enum-known-f Inv-loop μ-loop
-enum-known-f c = search needs
-
-same-length : tie.Need-same-length Inv-loop μ-loop
-same-length c = same-lines-now (failed-here c)
-
-same-length-2 : tie.Need-same-length-2 Inv-loop μ-loop
-same-length-2 c = same-tokens-now (failed-here c)
-
-same-length-3 : tie.Need-same-length-3 Inv-loop μ-loop
-same-length-3 c = wide-now (failed-here c) ∙ sym (start (here (failed-here c)) .pre .1 .1 .1 .1 .1 .0 .1)
-
-returns : tie.Need-returns Inv-loop μ-loop
-returns c =
-    let n = failed-here c in
-    let l = here n in
-    step-fails (text l) (start l .args .write) (lines₀ l) (tokens₀ l) (so-far l) (more n) _ _ _ _ (room l) _ _ (n .next-line .ensures .1 .0) (n .next-line .ensures .1 .1) _ (gave n _ (c .before .f .given .1))
-
-enum-told : tie.Need-enum-told Inv-loop μ-loop
-enum-told c = search needs
-
-add-t28 : tie.Need-add-t28 Inv-loop μ-loop
-add-t28 c =
-    let l = here (deep-here c) in
-    omega (arith, far l .0, so-far l .inside, few-bytes l)
-
-same-length-4 : tie.Need-same-length-4 Inv-loop μ-loop
-same-length-4 c = same-lines-now (deep-here c)
-
-same-length-5 : tie.Need-same-length-5 Inv-loop μ-loop
-same-length-5 c = same-tokens-now (deep-here c)
-
-same-length-6 : tie.Need-same-length-6 Inv-loop μ-loop
-same-length-6 c = wide-now (deep-here c) ∙ sym (start (here (deep-here c)) .pre .1 .1 .1 .1 .1 .0 .1)
-
-returns-2 : tie.Need-returns-2 Inv-loop μ-loop
-returns-2 c =
-    let n = deep-here c in
-    let l = here n in
-    step-deep (text l) (start l .args .write) (lines₀ l) (tokens₀ l) (so-far l) (more n) _ _ _ _ (room l) _ _ (n .next-line .ensures .1 .0) (n .next-line .ensures .1 .1) (gave n _ (c .enum-told .given .1))
+enum-known-m : tie.Need-enum-known-m
+enum-known-m c = search needs
 
 -- The end.
 
-cast-put-line : tie.Need-cast-put-line Inv-loop μ-loop
-cast-put-line c =
-    let l = c .before .before in
-    omega (arith, far l .0, far l .1, so-far l .inside, few-bytes l)
+small : (c : tie.After-known-told) → let x = c .before .m .given .0 in (x .0 ≤ 1_048_576) × (x .1 .0 + x .1 .1 .0 .levels ≤ 2_097_152)
+small c = end-small (text (began c)) (few-bytes (began c)) (end-at c)
 
-cast-put-line-2 : tie.Need-cast-put-line-2 Inv-loop μ-loop
-cast-put-line-2 c =
-    let l = c .before .before in
-    omega (arith, far l .0, far l .1, so-far l .inside, few-bytes l)
+cast-put-line : tie.Need-cast-put-line
+cast-put-line c = omega (arith, few-bytes (began (c .before)))
 
-put-line-requires : tie.Need-put-line-requires Inv-loop μ-loop
+cast-put-line-2 : tie.Need-cast-put-line-2
+cast-put-line-2 c = omega (arith, small (c .before))
+
+put-line-requires : tie.Need-put-line-requires
 put-line-requires c κs =
-    let l = c .before .before .before in
-    ((so-far l .wide, so-far l .few), λ w. omega (arith, same-lines (text l) (start l .args .write) (lines₀ l) (tokens₀ l) (so-far l), end-room (text l) (start l .args .write) (lines₀ l) (tokens₀ l) (so-far l) (c .before .before .loop-test .left) (length (lines₀ l)) (length (tokens₀ l)) (room l w) .0))
+    let e = c .before .before in
+    let s = began e in
+    ((wide (read-at e), end-at e .few), λ w. omega (arith, read-at e .read-on .kept .1 .1 .1 .1 .1 .1 .1 .1 .1 .1 .1 .1 .0, end-room (text s) (few-bytes s) (s .args .write) (s .args .lines .now) (s .args .tokens .now) (room s) (end-at e) w .0))
 
-cast-put-dedents : tie.Need-cast-put-dedents Inv-loop μ-loop
-cast-put-dedents c =
-    let l = c .before .before .before .before .before .before .before in
-    omega (arith, far l .0, far l .1, so-far l .inside, few-bytes l)
+cast-put-dedents : tie.Need-cast-put-dedents
+cast-put-dedents c = omega (arith, few-bytes (began (c .before .before .before .before .before .before)))
 
-cast-put-dedents-2 : tie.Need-cast-put-dedents-2 Inv-loop μ-loop
-cast-put-dedents-2 c =
-    let l = c .before .before .before .before .before .before .before in
-    omega (arith, far l .0, far l .1, so-far l .inside, few-bytes l)
+cast-put-dedents-2 : tie.Need-cast-put-dedents-2
+cast-put-dedents-2 c = omega (arith, small (c .before .before .before .before .before .before))
 
-add-put-dedents : tie.Need-add-put-dedents Inv-loop μ-loop
-add-put-dedents c =
-    let l = c .before .before .before .before .before .before .before in
-    omega (arith, far l .0, far l .1, so-far l .inside, few-bytes l)
+add-put-dedents : tie.Need-add-put-dedents
+add-put-dedents c = omega (arith, small (c .before .before .before .before .before .before))
 
-put-dedents-requires : tie.Need-put-dedents-requires Inv-loop μ-loop
+put-dedents-requires : tie.Need-put-dedents-requires
 put-dedents-requires c κs =
-    let l = c .before .before .before .before .before .before .before in
-    (omega (arith, far l .1, so-far l .inside, few-bytes l), λ w. omega (arith, same-tokens (text l) (start l .args .write) (lines₀ l) (tokens₀ l) (so-far l), end-room (text l) (start l .args .write) (lines₀ l) (tokens₀ l) (so-far l) (c .before .before .before .before .before .before .loop-test .left) (length (lines₀ l)) (length (tokens₀ l)) (room l w) .1))
+    let e = c .before .before .before .before .before .before in
+    let s = began e in
+    (omega (arith, small e), λ w. omega (arith, read-at e .read-on .kept .1 .1 .1 .1 .1 .1 .1 .1 .1 .1 .1 .1 .1 .0, end-room (text s) (few-bytes s) (s .args .write) (s .args .lines .now) (s .args .tokens .now) (room s) (end-at e) w .1))
 
-add-t39 : tie.Need-add-t39 Inv-loop μ-loop
-add-t39 c =
-    let l = c .before .before .before .before .before .before .before .before .before .before .before in
-    omega (arith, far l .1, so-far l .inside, few-bytes l)
+add-t41 : tie.Need-add-t41
+add-t41 c = omega (arith, small (c .before .before .before .before .before .before .before .before .before .before))
 
-same-length-7 : tie.Need-same-length-7 Inv-loop μ-loop
-same-length-7 c =
-    let l = c .before .before .before .before .before .before .before .before .before .before .before in
-    c .before .before .before .before .before .before .before .put-line .kept .0 ∙ same-lines (text l) (start l .args .write) (lines₀ l) (tokens₀ l) (so-far l)
+enum-known-m-2 : tie.Need-enum-known-m-2
+enum-known-m-2 c = search needs
 
-same-length-8 : tie.Need-same-length-8 Inv-loop μ-loop
-same-length-8 c =
-    let l = c .before .before .before .before .before .before .before .before .before .before .before in
-    c .before .before .before .put-dedents .kept .0 ∙ same-tokens (text l) (start l .args .write) (lines₀ l) (tokens₀ l) (so-far l)
+enum-known-f : tie.Need-enum-known-f
+enum-known-f c = search needs
 
-same-length-9 : tie.Need-same-length-9 Inv-loop μ-loop
-same-length-9 c =
-    let l = c .before .before .before .before .before .before .before .before .before .before .before in
-    so-far l .wide ∙ sym (start l .pre .1 .1 .1 .1 .1 .0 .1)
+enum-known-number : tie.Need-enum-known-number
+enum-known-number c = search needs
 
-returns-3 : tie.Need-returns-3 Inv-loop μ-loop
+same-length : tie.Need-same-length
+same-length c = search needs
+
+same-length-2 : tie.Need-same-length-2
+same-length-2 c = search needs
+
+same-length-3 : tie.Need-same-length-3
+same-length-3 c = search needs
+
+returns : tie.Need-returns
+returns c =
+    let d = c .before .before .before in
+    let l = d .before .before .before .before in
+    let e = l .before .before .before in
+    let s = began e in
+    let put = read-at e .read-on .ensures .1 .1 in
+    end-pass (text s) (few-bytes s) (s .args .write) (s .args .lines .now) (s .args .tokens .now) (room s) (lines-now (read-at e)) (tokens-now (read-at e)) (put .0) (put .1) (end-at e) _ _ (l .put-line .ensures) (d .put-dedents .ensures)
+
+same-length-4 : tie.Need-same-length-4
+same-length-4 c = search needs
+
+same-length-5 : tie.Need-same-length-5
+same-length-5 c = search needs
+
+same-length-6 : tie.Need-same-length-6
+same-length-6 c = search needs
+
+-- A text of which nothing is kept has no stop.
+returns-2 : tie.Need-returns-2
+returns-2 c =
+    let x = gave (c .before .before .before .before .before .before .before .before .before) _ (c .before .m2 .given .1) in
+    absurd (omega (arith, x .1 .0, x .1 .1 .1 .0))
+
+same-length-7 : tie.Need-same-length-7
+same-length-7 c = search needs
+
+same-length-8 : tie.Need-same-length-8
+same-length-8 c = search needs
+
+same-length-9 : tie.Need-same-length-9
+same-length-9 c = search needs
+
+returns-3 : tie.Need-returns-3
 returns-3 c =
-    let l = c .before .before .before .before .before .before .before .before .before .before .before in
-    end-pass (text l) (start l .args .write) (lines₀ l) (tokens₀ l) (so-far l) (c .before .before .before .before .before .before .before .before .before .before .loop-test .left) _ _ (c .before .before .before .before .before .before .before .put-line .ensures) (c .before .before .before .put-dedents .ensures)
+    let r = c .before .before .before .before .before .before .before .before .before in
+    let s = start r in
+    let put = r .read-on .ensures .1 .1 in
+    failed-pass (text s) (few-bytes s) (s .args .write) (s .args .lines .now) (s .args .tokens .now) (room s) (lines-now r) (tokens-now r) (put .0) (put .1) _ (gave r _ (c .before .f .given .1) .0)
+
+same-length-10 : tie.Need-same-length-10
+same-length-10 c = search needs
+
+same-length-11 : tie.Need-same-length-11
+same-length-11 c = search needs
+
+same-length-12 : tie.Need-same-length-12
+same-length-12 c = search needs
+
+returns-4 : tie.Need-returns-4
+returns-4 c =
+    let r = c .before .before .before .before .before .before .before .before .before in
+    let s = start r in
+    let put = r .read-on .ensures .1 .1 in
+    deep-pass (text s) (few-bytes s) (s .args .write) (s .args .lines .now) (s .args .tokens .now) (room s) (lines-now r) (tokens-now r) (put .0) (put .1) _ (gave r _ (c .before .number .given .1) .0)
 
 pub pass-lines-spec : {M : Type 1} → statement M
 pass-lines-spec =
     tie.close
     (tie.spec
-    Inv-loop
-    μ-loop
-    loop-holds
-    next-line-requires
-    enum-known-next
-    add-k
-    add-m
-    loop-less
-    loop-again
-    enum-known-f
-    same-length
-    same-length-2
-    same-length-3
-    returns
-    enum-told
-    add-t28
-    same-length-4
-    same-length-5
-    same-length-6
-    returns-2
+    slice-aggregate-read-on
+    read-on-requires
+    enum-known-m
     cast-put-line
     cast-put-line-2
     put-line-requires
@@ -274,8 +201,23 @@ pass-lines-spec =
     cast-put-dedents-2
     add-put-dedents
     put-dedents-requires
-    add-t39
+    add-t41
+    enum-known-m-2
+    enum-known-f
+    enum-known-number
+    same-length
+    same-length-2
+    same-length-3
+    returns
+    same-length-4
+    same-length-5
+    same-length-6
+    returns-2
     same-length-7
     same-length-8
     same-length-9
-    returns-3)
+    returns-3
+    same-length-10
+    same-length-11
+    same-length-12
+    returns-4)

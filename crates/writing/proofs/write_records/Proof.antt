@@ -5,14 +5,13 @@ use mathlib.Core.Path.{_≡_, refl, sym, ap, subst, _∙_}
 use mathlib.Core.List.{List}
 use native.Mathlib.Omega.{arith}
 use lib.ListN.{length, take, drop, length-drop, length-take}
-use lib.Seq.{take-all}
 use Rattle.rules.specs.Line.{State}
-use Rattle.rules.specs.Reading.{Reading}
+use Rattle.rules.specs.Reading.{Reading, linesOf, readFrom}
 use Rattle.line.specs.States.{stateOf}
-use Rattle.rereading.specs.Rewrites.{readFirst, Reaches}
+use Rattle.rereading.specs.Rewrites.{Reaches}
 use Rattle.planning.specs.Starts.{lineWord}
 use Rattle.planning.specs.Plans.{plannedLines, Planned}
-use Rattle.writing.proofs.Writes.{Bounds, bounds, Reached, room-moved, end-room, lines-written, tokens-written}
+use Rattle.writing.proofs.Writes.{Bounds, bounds, Reached, new-le, part-lines, room-moved, end-room, lines-written, tokens-written}
 use borrow.Author.Needs.{needs}
 use Rattle.writing.proofs.write_records.Statement.{statement}
 use Rattle.writing.proofs.write_records.Tie as tie
@@ -136,27 +135,22 @@ abbrev state-at : tie.After-keyword-table → tie.After-load-state
 state-at c = loaded (tokens-moved (lines-moved c))
 
 sub-rewrite-lines : tie.Need-sub-rewrite-lines
-sub-rewrite-lines c = planned (start (state-at (c .before .before .before .before .before))) .base-le
+sub-rewrite-lines c = part-lines (planned (start (state-at (c .before .before .before .before .before)))) .0
 
 part-rewrite-lines-start : tie.Need-part-rewrite-lines-start
-part-rewrite-lines-start c = planned (start (state-at (c .before .before .before .before .before))) .base-le
+part-rewrite-lines-start c = part-lines (planned (start (state-at (c .before .before .before .before .before)))) .0
 
 part-rewrite-lines-end : tie.Need-part-rewrite-lines-end
-part-rewrite-lines-end c = search needs
+part-rewrite-lines-end c = new-le (planned (start (state-at (c .before .before .before .before .before))))
 
 slice-aggregate-rewrite-lines : tie.Need-slice-aggregate-rewrite-lines
 slice-aggregate-rewrite-lines c = sym (state-at (c .before .before .before .before .before .before .before .before .before) .load-state .kept .1 .1 .0)
 
--- the lines read again, as the code has the rest of the text and the state, are the planned ones
-rest-read : (c : tie.After-load-state)
+-- the lines read again, as the code has the part of the text and the state, are the planned ones
+part-read : (c : tie.After-load-state)
     → let a = start c .args in let E = a .edited .now in let base = a .p .base in
-    readFirst (a .p .count) (stateOf (c .load-state .result) (c .load-state .last .1 .1 .0)) (take (length E - base) (drop base E)) ≡ plannedLines E (a .lines .now) (a .p)
-rest-read c =
-    let a = start c .args in
-    let E = a .edited .now in
-    let base = a .p .base in
-    let rest : take (length E - base) (drop base E) ≡ drop base E = take-all (length E - base) (drop base E) (omega (arith, length-drop base E)) in
-    λ x. readFirst (a .p .count) (c .load-state .ensures .0 x) (rest x)
+    readFrom 16 (stateOf (c .load-state .result) (c .load-state .last .1 .1 .0)) (linesOf (take (a .p .new - base) (drop base E))) ≡ plannedLines E (a .lines .now) (a .p)
+part-read c = λ x. readFrom 16 (c .load-state .ensures .0 x) (part-lines (planned (start c)) .1 x)
 
 rewrite-lines-requires : tie.Need-rewrite-lines-requires
 rewrite-lines-requires c κs =
@@ -179,10 +173,10 @@ rewrite-lines-requires c κs =
             (
               t .keyword-table .ensures,
               (
-                (omega (arith, length-take (length E - base) (drop base E), length-drop base E, s .pre .0 .0, pl .base-le), pl .number),
+                (omega (arith, length-take (s .args .p .new - base) (drop base E), length-drop base E, s .pre .0 .0, pl .base-le), pl .number),
                 (
                   (omega (arith, d, pl .depth), (l .load-state .ensures .1, l .load-state .kept .1 .1 .0)),
-                  room-moved pl (rest-read l) (ml .move-lines .kept .0) (mt .move-tokens .kept .0) (s .pre .1 .1),
+                  room-moved pl (part-read l) (ml .move-lines .kept .0) (mt .move-tokens .kept .0) (s .pre .1 .1),
                 ),
               ),
             ),
@@ -197,7 +191,7 @@ abbrev began : tie.After-rewrite-lines → tie.Start
 began c = start (state-at (tabled c))
 
 abbrev widths-at : tie.After-rewrite-lines → List ℕ
-widths-at c = c .rewrite-lines .last .1 .1 .1 .1 .1 .1 .1 .1 .1 .1 .1 .1 .0
+widths-at c = c .rewrite-lines .last .1 .1 .1 .1 .1 .1 .1 .1 .1 .1 .1 .0
 
 -- the state that those lines reach, as the code has it
 reached : (c : tie.After-rewrite-lines) → Reached (plannedLines (began c .args .edited .now) (began c .args .lines .now) (began c .args .p)) (c .rewrite-lines .result) (widths-at c)
@@ -205,16 +199,16 @@ reached c =
     let l = state-at (tabled c) in
     record {
       few = c .rewrite-lines .ensures .0 .1;
-      wide = c .rewrite-lines .kept .1 .1 .1 .1 .1 .1 .1 .1 .1 .1 .1 .1 .0 ∙ l .load-state .kept .1 .1 .0;
-      is = subst (λ (r : Reading). Reaches r (stateOf (c .rewrite-lines .result) (widths-at c))) (rest-read l) (c .rewrite-lines .ensures .0 .0);
+      wide = c .rewrite-lines .kept .1 .1 .1 .1 .1 .1 .1 .1 .1 .1 .1 .0 ∙ l .load-state .kept .1 .1 .0;
+      is = subst (λ (r : Reading). Reaches r (stateOf (c .rewrite-lines .result) (widths-at c))) (part-read l) (c .rewrite-lines .ensures .0 .0);
     }
 
 -- the buffers are as long as they were
-lines-long : (c : tie.After-rewrite-lines) → length (c .rewrite-lines .last .1 .1 .1 .1 .1 .1 .0) ≡ length (began c .args .lines .now)
-lines-long c = c .rewrite-lines .kept .1 .1 .1 .1 .1 .1 .0 ∙ lines-moved (tabled c) .move-lines .kept .0
+lines-long : (c : tie.After-rewrite-lines) → length (c .rewrite-lines .last .1 .1 .1 .1 .1 .1 .1 .0) ≡ length (began c .args .lines .now)
+lines-long c = c .rewrite-lines .kept .1 .1 .1 .1 .1 .1 .1 .0 ∙ lines-moved (tabled c) .move-lines .kept .0
 
-tokens-long : (c : tie.After-rewrite-lines) → length (c .rewrite-lines .last .1 .1 .1 .1 .1 .1 .1 .0) ≡ length (began c .args .tokens .now)
-tokens-long c = c .rewrite-lines .kept .1 .1 .1 .1 .1 .1 .1 .0 ∙ tokens-moved (lines-moved (tabled c)) .move-tokens .kept .0
+tokens-long : (c : tie.After-rewrite-lines) → length (c .rewrite-lines .last .1 .1 .1 .1 .1 .1 .1 .1 .0) ≡ length (began c .args .tokens .now)
+tokens-long c = c .rewrite-lines .kept .1 .1 .1 .1 .1 .1 .1 .1 .0 ∙ tokens-moved (lines-moved (tabled c)) .move-tokens .kept .0
 
 slice-aggregate-put-end : tie.Need-slice-aggregate-put-end
 slice-aggregate-put-end c = search needs
@@ -240,7 +234,7 @@ returns c =
     let ml = lines-moved (tabled r) in
     let mt = tokens-moved ml in
     let s = began r in
-    let read = rest-read (loaded mt) in (
+    let read = part-read (loaded mt) in (
       lines-written (planned s) (reached r) (s .args .lines .now) _ read (ml .move-lines .ensures) (r .rewrite-lines .ensures .1 .0) (e .put-end .ensures .0),
       tokens-written (planned s) (reached r) (s .args .tokens .now) _ read (mt .move-tokens .ensures) (r .rewrite-lines .ensures .1 .1) (e .put-end .ensures .1),
     )

@@ -1,4 +1,4 @@
--- `reading::past_lf` meets its contract.
+-- `lines::past_lf` meets its contract.
 -- Assumes nothing.
 use mathlib.Core.Path.{_≡_, refl, sym, ap, _∙_}
 use native.Mathlib.Omega.{arith}
@@ -6,8 +6,8 @@ use native.Mathlib.Numerals.{add-one}
 use lib.ListN.{length}
 use borrow.Author.Tests.{lt-ltb, le-ltb}
 use borrow.Author.Needs.{needs}
-use Rattle.reading.proofs.past_lf.Statement.{statement}
-use Rattle.reading.proofs.past_lf.Tie as tie
+use Rattle.lines.proofs.past_lf.Statement.{statement}
+use Rattle.lines.proofs.past_lf.Tie as tie
 
 add-result : tie.Need-add-result
 add-result c = omega arith

@@ -1,4 +1,4 @@
--- `reading::put_widths` meets its contract. So far i widths stand there.
+-- `lines::put_widths` meets its contract. So far i widths stand there.
 -- Assumes nothing.
 use Prim.Native.Nat.{ℕ, _+_, _-_, _≤_}
 use mathlib.Core.Path.{_≡_, refl, sym, ap, _∙_}
@@ -10,8 +10,8 @@ use borrow.Author.Needs.{needs}
 use Rattle.rules.specs.Records.{packed}
 use Rattle.rules.proofs.RecordLaws.{length-packed}
 use Rattle.laws.proofs.Sets.{copy-up}
-use Rattle.reading.proofs.put_widths.Statement.{statement}
-use Rattle.reading.proofs.put_widths.Tie as tie
+use Rattle.lines.proofs.put_widths.Statement.{statement}
+use Rattle.lines.proofs.put_widths.Tie as tie
 
 abbrev Inv-loop : tie.InvT-loop
 Inv-loop lines₀ at widths levels i₀ lines i = (i ≤ 16) × (lines ≡ sets lines₀ at (take i (packed (take levels widths))))

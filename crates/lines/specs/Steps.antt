@@ -8,9 +8,22 @@ use Rattle.rules.specs.Failure as rules-failure
 use Rattle.rules.specs.Failure.{failureRecord}
 use Rattle.rules.specs.Line.{Token, failed, overLimit, LineReply, lineReads, lineHalts}
 use Rattle.line.specs.States.{stateOf}
-use Rattle.reading.specs.Passes.{recordIn}
-use Rattle.reading.specs.declared.Step.{Step}
-use Rattle.reading.specs.declared.Step.the-variants.{Reads, Fails, TooDeep}
+use Rattle.lines.specs.declared.FailureRecord.{FailureRecord}
+use Rattle.lines.specs.declared.Step.{Step}
+use Rattle.lines.specs.declared.Step.the-variants.{Reads, Fails, TooDeep}
+
+abbrev pub recordIn : rules-failure.FailureRecord → FailureRecord
+recordIn f =
+    record {
+      code = f .code;
+      detail = f .detail;
+      found = f .found;
+      position = f .position;
+      line = f .line;
+      column = f .column;
+      from = f .from;
+      to = f .to;
+    }
 
 -- a line's reply, for the line with this number that starts at this byte: with the widths left, where the next one starts, the number
 -- of tokens and the state; or the failure's record; or a level too many

@@ -1,10 +1,10 @@
--- `reading::code_of` meets its contract.
+-- `lines::code_of` meets its contract.
 -- Assumes nothing.
 use native.Mathlib.Omega.{arith}
-use Rattle.reading.proofs.Codes.{code-at, code-past}
+use Rattle.lines.proofs.Codes.{code-at, code-past}
 use borrow.Author.Needs.{needs}
-use Rattle.reading.proofs.code_of.Statement.{statement}
-use Rattle.reading.proofs.code_of.Tie as tie
+use Rattle.lines.proofs.code_of.Statement.{statement}
+use Rattle.lines.proofs.code_of.Tie as tie
 
 returns : tie.Need-returns
 returns c = code-past (c .before .args .detail) (c .if1 .taken)

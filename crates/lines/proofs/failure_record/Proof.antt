@@ -1,4 +1,4 @@
--- `reading::failure_record` meets its contract.
+-- `lines::failure_record` meets its contract.
 -- Assumes nothing.
 use Prim.Native.Nat.{ℕ, suc, _+_, _≤_}
 use mathlib.Core.Path.{_≡_, refl, sym, ap, _∙_}
@@ -6,8 +6,8 @@ use native.Mathlib.Omega.{arith}
 use native.Mathlib.Numerals.{add-one}
 use Rattle.rules.specs.Failure.{detailOf, failureRecord}
 use borrow.Author.Needs.{needs}
-use Rattle.reading.proofs.failure_record.Statement.{statement}
-use Rattle.reading.proofs.failure_record.Tie as tie
+use Rattle.lines.proofs.failure_record.Statement.{statement}
+use Rattle.lines.proofs.failure_record.Tie as tie
 
 add-position : tie.Need-add-position
 add-position c = omega (arith, c .before .pre .0)

@@ -1,4 +1,4 @@
--- `reading::put_line` meets its contract.
+-- `lines::put_line` meets its contract.
 -- Assumes nothing.
 use Prim.Native.Nat.{ℕ, _+_, _*_, _≤_}
 use mathlib.Core.Path.{_≡_, refl, sym, ap, _∙_}
@@ -11,9 +11,9 @@ use borrow.Author.Needs.{needs}
 use borrow.Author.Tests.{not-true, not-false}
 use Rattle.rules.specs.Lists.{bit}
 use Rattle.rules.specs.Records.{packed}
-use Rattle.reading.proofs.Widths.{record-words}
-use Rattle.reading.proofs.put_line.Statement.{statement}
-use Rattle.reading.proofs.put_line.Tie as tie
+use Rattle.lines.proofs.Widths.{record-words}
+use Rattle.lines.proofs.put_line.Statement.{statement}
+use Rattle.lines.proofs.put_line.Tie as tie
 
 returns : tie.Need-returns
 returns c = let w : c .before .before .before .args .write ≡ false = not-true _ (c .if1 .taken) in rw w

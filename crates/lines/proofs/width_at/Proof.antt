@@ -1,10 +1,10 @@
--- `reading::width_at` meets its contract.
+-- `lines::width_at` meets its contract.
 -- Assumes nothing.
 use native.Mathlib.Omega.{arith}
-use Rattle.reading.proofs.Widths.{width-open, width-none}
+use Rattle.lines.proofs.Widths.{width-open, width-none}
 use borrow.Author.Needs.{needs}
-use Rattle.reading.proofs.width_at.Statement.{statement}
-use Rattle.reading.proofs.width_at.Tie as tie
+use Rattle.lines.proofs.width_at.Statement.{statement}
+use Rattle.lines.proofs.width_at.Tie as tie
 
 mul-result : tie.Need-mul-result
 mul-result c = omega arith

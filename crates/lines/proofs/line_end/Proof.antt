@@ -1,10 +1,10 @@
--- `reading::line_end` meets its contract.
+-- `lines::line_end` meets its contract.
 -- Assumes nothing.
 use native.Mathlib.Omega.{arith}
 use Rattle.rules.specs.Reading.{notLF}
 use borrow.Author.Needs.{needs}
-use Rattle.reading.proofs.line_end.Statement.{statement}
-use Rattle.reading.proofs.line_end.Tie as tie
+use Rattle.lines.proofs.line_end.Statement.{statement}
+use Rattle.lines.proofs.line_end.Tie as tie
 
 find-byte-requires : tie.Need-find-byte-requires
 find-byte-requires c κs = search needs

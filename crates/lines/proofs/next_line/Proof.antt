@@ -1,4 +1,4 @@
--- `reading::next_line` meets its contract.
+-- `lines::next_line` meets its contract.
 -- Assumes nothing.
 use Prim.Native.Nat.{ℕ, _+_, _-_, _*_, _≤_, _<_}
 use mathlib.Core.Path.{_≡_, sym, ap, subst, _∙_}
@@ -16,10 +16,10 @@ use Rattle.laws.specs.Puts.{putIf}
 use Rattle.cut.specs.Cuts.{failureOf}
 use Rattle.line.specs.States.{stateOf}
 use Rattle.line.specs.LineCuts.{tokensIn, RoomIn, LevelsWithin}
-use Rattle.reading.proofs.Lines.{line-read, line-fails, line-deep, next-start, slice-is}
+use Rattle.lines.proofs.Lines.{line-read, line-fails, line-deep, next-start, slice-is}
 use borrow.Author.Needs.{needs}
-use Rattle.reading.proofs.next_line.Statement.{statement}
-use Rattle.reading.proofs.next_line.Tie as tie
+use Rattle.lines.proofs.next_line.Statement.{statement}
+use Rattle.lines.proofs.next_line.Tie as tie
 
 -- What the function was called with.
 module _ (s : tie.Start) where
