@@ -4,6 +4,7 @@ use Prim.Native.Nat.{ℕ, suc, _+_, _*_, _≤_, _<_}
 use mathlib.Core.Path.{_≡_, refl, sym, ap, subst, _∙_}
 use mathlib.Core.Bool.{Bool, true}
 use mathlib.Core.List.{List, [], _∷_, _++_, append-nil}
+use mathlib.Core.Logic.{inl}
 use native.Mathlib.Omega.{arith}
 use lib.ListN.{length, take, drop, length-replicate, drop-of-length-le}
 use lib.Seq.{length-take-le}
@@ -80,11 +81,11 @@ module _ (t : List ℕ) (short : length t ≤ 1_048_576) where
 
   module _ (write : Bool) (lines₀ tokens₀ : List ℕ) (room : write ≡ true → RoomIn whole (length lines₀) (length tokens₀)) where
     pub may-pass : MayPut write whole (0 + length t) (length t) 0 0 (length lines₀) (length tokens₀)
-    may-pass = record { ends = λ w. omega arith; room = λ w. go whole refl (room w); counts = λ w. refl }
+    may-pass = record { ends = λ w. omega arith; room = λ w. go whole (room w); few = inl refl }
       where
-        go : (x : Reading) → whole ≡ x → RoomIn x (length lines₀) (length tokens₀) → RoomFrom x 0 0 (length lines₀) (length tokens₀)
-        go (reads es z) e r = (omega (arith, r .0), (omega (arith, r .1, end-tokens es z), omega (arith, few es z e .0 .tokens)))
-        go (halts es x) e r = r
+        go : (x : Reading) → RoomIn x (length lines₀) (length tokens₀) → RoomFrom x 0 0 (length lines₀) (length tokens₀)
+        go (reads es z) r = (omega (arith, r .0), omega (arith, r .1, end-tokens es z))
+        go (halts es x) r = r
 
     pub end-room : {widths : List ℕ} {m k : ℕ} {s : State} → EndOf t widths m k s → write ≡ true → (21 * m + 21 ≤ length lines₀) × (5 * (k + s .levels) ≤ length tokens₀)
     end-room v w =

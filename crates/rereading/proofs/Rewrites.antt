@@ -2,8 +2,9 @@
 -- Assumes nothing.
 use Prim.Native.Nat.{ℕ, _+_, _*_, _≤_, _<_}
 use mathlib.Core.Path.{_≡_, refl, sym, ap, subst, _∙_}
-use mathlib.Core.Bool.{Bool, true, false}
+use mathlib.Core.Bool.{Bool, true}
 use mathlib.Core.List.{List, [], _∷_, _++_, append-nil}
+use mathlib.Core.Logic.{⊎-elim}
 use native.Mathlib.Omega.{arith}
 use lib.ListN.{length, drop, length-append}
 use Rattle.rules.specs.Line as rules-line
@@ -19,7 +20,7 @@ use Rattle.line.specs.declared.State.{State}
 use Rattle.line.specs.States.{stateOf}
 use Rattle.line.specs.LineCuts.{RoomIn, tokensIn}
 use Rattle.lines.proofs.Lines.{PassTo}
-use Rattle.rereading.specs.Rewrites.{RoomFrom, MayPut, Reaches}
+use Rattle.rereading.specs.Rewrites.{RoomFrom, FewFrom, MayPut, Reaches}
 
 -- The records of one line more, which may be the end.
 
@@ -96,35 +97,41 @@ module _ {t : List ℕ} {z₀ : rules-line.State} {es : List Entry} {widths : Li
   abbrev z : rules-line.State
   z = stateOf s widths
 
-  -- room for the next line
-  abbrev NextRoom : LineReply → (i first lines tokens : ℕ) → Type 0
-  NextRoom x i first lines tokens = (first + k ≤ 3_000_000) × ((21 * (i + c) + 21 ≤ lines) × RoomIn x (first + k) tokens)
-
-  next-room : (i first lines tokens : ℕ) (x : Reading) → readFrom 16 z₀ (linesOf t) ≡ x → RoomFrom x i first lines tokens → NextRoom (readLine 16 z (lineAt t q)) i first lines tokens
+  -- where all lines read, the next one does, with what follows it
+  next-of : (all : List Entry) (end : rules-line.State) → readFrom 16 z₀ (linesOf t) ≡ reads all end
+      → (ts : List Token) × (y : rules-line.State) × (readLine 16 z (lineAt t q) ≡ lineReads ts y) × (c + 1 ≤ length all) × (k + length ts ≤ tokenSum all)
   unfolding tokenSum
-  next-room i first lines tokens (halts all x) e r = absurd r
-  next-room i first lines tokens (reads all end) e r = go (readLine 16 z (lineAt t q)) refl
+  next-of all end e = go (readLine 16 z (lineAt t q)) refl
     where
-      go : (x : LineReply) → readLine 16 z (lineAt t q) ≡ x → NextRoom x i first lines tokens
+      go : (x : LineReply) → readLine 16 z (lineAt t q) ≡ x
+          → (ts : List Token) × (y : rules-line.State) × (readLine 16 z (lineAt t q) ≡ lineReads ts y) × (c + 1 ≤ length all) × (k + length ts ≤ tokenSum all)
       go (lineReads ts y) l =
           let x : Entry = entry z (sizeAt t q) ts in
-          let f = front t z₀ (q + sizeAt t q) (es ++ (x ∷ [])) y (read-line 16 z₀ t q es z (v .to) ts y h l) all end e in
-          let n : length all ≡ c + 1 + length (f .0) = omega (arith, ap length (f .1), length-append (es ++ (x ∷ [])) (f .0), length-append es (x ∷ []), v .count) in
-          let sums : tokenSum all ≡ k + length ts + tokenSum (f .0) = omega (arith, ap tokenSum (f .1), tokenSum-append (es ++ (x ∷ [])) (f .0), tokenSum-append es (x ∷ []), v .sum) in
-          (omega (arith, r .1 .1), (omega (arith, r .0), omega (arith, r .1 .0)))
+          let f = front t z₀ (q + sizeAt t q) (es ++ (x ∷ [])) y (read-line 16 z₀ t q es z (v .to) ts y h l) all end e in (
+            ts,
+            y,
+            l,
+            omega (arith, ap length (f .1), length-append (es ++ (x ∷ [])) (f .0), length-append es (x ∷ []), v .count),
+            omega (arith, ap tokenSum (f .1), tokenSum-append (es ++ (x ∷ [])) (f .0), tokenSum-append es (x ∷ []), v .sum),
+          )
       go (lineHalts x) l = absurd (not-both e (read-stuck 16 z₀ t q es z (v .to) x h l))
+
+  next-room : (i first lines tokens : ℕ) (x : Reading) → readFrom 16 z₀ (linesOf t) ≡ x → RoomFrom x i first lines tokens
+      → (21 * (i + c) + 21 ≤ lines) × RoomIn (readLine 16 z (lineAt t q)) (first + k) tokens
+  next-room i first lines tokens (halts all x) e r = absurd r
+  next-room i first lines tokens (reads all end) e r =
+      let n = next-of all end e in
+      (omega (arith, r .0, n .3), rw (n .2) (omega (arith, r .1, n .4)))
+
+  next-few : (first : ℕ) (x : Reading) → readFrom 16 z₀ (linesOf t) ≡ x → FewFrom x first → first + k ≤ 3_000_000
+  next-few first (halts all x) e r = absurd r
+  next-few first (reads all end) e r = omega (arith, r, next-of all end e .4)
 
   -- the next line's token and, where the pass writes, its room
   pub may-next : {write : Bool} {end kept i first lines tokens : ℕ} → MayPut write (readFrom 16 z₀ (linesOf t)) end kept i first lines tokens → k ≤ 3_000_000
       → (first + k ≤ 3_000_000) × (write ≡ true → (21 * (i + c) + 21 ≤ lines) × RoomIn (readLine 16 z (lineAt t q)) (first + k) tokens)
-  may-next {write} {end} {kept} {i} {first} {lines} {tokens} r few = (go write refl, λ e. room e .1)
-    where
-      room : write ≡ true → NextRoom (readLine 16 z (lineAt t q)) i first lines tokens
-      room e = next-room i first lines tokens _ refl (r .room e)
-
-      go : (w : Bool) → write ≡ w → first + k ≤ 3_000_000
-      go true e = room e .0
-      go false e = omega (arith, r .counts e)
+  may-next {i = i} {first} {lines} {tokens} r few =
+      (⊎-elim (λ (e : first ≡ 0). omega (arith, e)) (λ (x : FewFrom (readFrom 16 z₀ (linesOf t)) first). next-few first _ refl x) (r .few), λ e. next-room i first lines tokens _ refl (r .room e))
 
   -- the next line is written
   pub put-next : {write : Bool} {base i first : ℕ} {lines₀ tokens₀ lines tokens lines′ tokens′ : List ℕ} → PutTo write base i first lines₀ tokens₀ es lines tokens

@@ -2,8 +2,9 @@
 -- Assumes nothing.
 use Prim.Native.Nat.{ℕ, _+_, _*_, _≤_}
 use mathlib.Core.Path.{_≡_}
-use mathlib.Core.Bool.{Bool, true, false}
+use mathlib.Core.Bool.{Bool, true}
 use mathlib.Core.List.{List}
+use mathlib.Core.Logic.{_⊎_}
 use lib.ListN.{length}
 use Rattle.rules.specs.Line.{State}
 use Rattle.rules.specs.Reading.{Reading, reads, halts, tokenSum}
@@ -13,14 +14,19 @@ use Rattle.rereading.specs.declared.Reread.the-variants.{Stops, Ends, Fa
 
 -- the lines read, and buffers of these lengths hold their records from record i and token k on
 abbrev pub RoomFrom : Reading → (i k lines tokens : ℕ) → Type 0
-RoomFrom (reads es z) i k lines tokens = (21 * (i + length es) ≤ lines) × ((5 * (k + tokenSum es) ≤ tokens) × (k + tokenSum es ≤ 3_000_000))
+RoomFrom (reads es z) i k lines tokens = (21 * (i + length es) ≤ lines) × (5 * (k + tokenSum es) ≤ tokens)
 RoomFrom (halts es h) i k lines tokens = ⊥
 
--- a pass that writes comes to the end of the text, since no tail is kept, and has room; one that only counts begins with token 0
+-- the lines read, and their tokens from token k on have small numbers
+abbrev pub FewFrom : Reading → (k : ℕ) → Type 0
+FewFrom (reads es z) k = k + tokenSum es ≤ 3_000_000
+FewFrom (halts es h) k = ⊥
+
+-- a pass that writes comes to the end of the text, since no tail is kept, and has room; tokens have small numbers where they begin with 0
 pub record MayPut (write : Bool) (x : Reading) (end kept i k lines tokens : ℕ) : Type 0 where
   pub ends : write ≡ true → end ≤ kept
   pub room : write ≡ true → RoomFrom x i k lines tokens
-  pub counts : write ≡ false → k ≡ 0
+  pub few : (k ≡ 0) ⊎ FewFrom x k
 
 -- the state after the lines
 abbrev pub Reaches : Reading → State → Type 0

@@ -16,7 +16,7 @@ ghost use Rattle.line.specs.LineCuts.{tokensIn, RoomIn};
 ghost use Rattle.laws.specs.Puts.{putIf};
 ghost use Rattle.rereading.specs.Words.{startWord, stateIn, oldByte, FirstFrom, stopsAt};
 ghost use Rattle.rereading.specs.Rereads.{RereadIs};
-ghost use Rattle.rereading.specs.Rewrites.{RoomFrom, MayPut, Reaches, EndsIn};
+ghost use Rattle.rereading.specs.Rewrites.{RoomFrom, FewFrom, MayPut, Reaches, EndsIn};
 
 // From record j on, the first of m that starts at the byte `at` or beyond.
 fn first_from(lines: &[u32], m: usize, j: usize, at: usize) -> usize
@@ -226,6 +226,7 @@ pub fn rewrite_lines(
     requires { ⌜ now keywords ≡ keywordTable ⌝ }
     requires { ⌜ (base + length (now text) ≤ 1_048_576) × (i ≤ base) ⌝ }
     requires { ⌜ (start .depth ≤ base) × ((start .levels ≤ 16) × (length (now widths) ≡ 16)) ⌝ }
+    requires { ⌜ FewFrom (readFrom 16 (stateOf start (now widths)) (linesOf (now text))) first ⌝ }
     requires { ⌜ RoomFrom (readFrom 16 (stateOf start (now widths)) (linesOf (now text))) i first (length (now lines)) (length (now tokens)) ⌝ }
     ensures { λ r. ⌜ Reaches (readFrom 16 (stateOf start (now (widths .entry))) (linesOf (now (text .entry)))) (stateOf r (now (widths .exit))) × (r .levels ≤ 16) ⌝ }
     ensures { λ _. ⌜ now (lines .exit) ≡ sets (now (lines .entry)) (21 * i) (lineRecords base first (linesRead (readFrom 16 (stateOf start (now (widths .entry))) (linesOf (now (text .entry)))))) ⌝ }

@@ -18,7 +18,7 @@ use Rattle.laws.specs.Puts.{putIf}
 use Rattle.laws.proofs.Sets.{sets-before}
 use Rattle.line.specs.States.{stateOf}
 use Rattle.line.specs.declared.State as line-state
-use Rattle.rereading.specs.Rewrites.{RoomFrom, Reaches}
+use Rattle.rereading.specs.Rewrites.{RoomFrom, FewFrom, Reaches}
 use Rattle.rereading.proofs.Rewrites.{more-lines, more-tokens}
 use Rattle.planning.specs.Starts.{stateFrom}
 use Rattle.planning.specs.Plans.{newLines, plannedLines, ReadsAs, Planned, Roomy}
@@ -127,7 +127,14 @@ module _ {u lines : List ℕ} {m k : ℕ} {p : Plan} (pl : Planned u lines m k p
       go : (x : Reading) → R ≡ x → ReadsAs p x → RoomFrom x (p .i) (p .first) linesLen tokensLen
       go (halts es h) e x = absurd x
       go (reads es z) e x =
-          (omega (arith, r .line-room, counts .0, x .0), (omega (arith, r .token-room, counts .1, x .1), omega (arith, r .few, counts .1, x .1)))
+          (omega (arith, r .line-room, counts .0, x .0), omega (arith, r .token-room, counts .1, x .1))
+
+  pub few-from : {x : Reading} {linesLen tokensLen : ℕ} → x ≡ R → Roomy m k linesLen tokensLen p → FewFrom x (p .first)
+  few-from {x} e r = rw e (go R (pl .reads-as))
+    where
+      go : (y : Reading) → ReadsAs p y → FewFrom y (p .first)
+      go (halts es h) q = absurd q
+      go (reads es z) q = omega (arith, r .few, counts .1, q .1)
 
   -- and for the end, where the plan ends there
   pub room-end : (linesLen tokensLen : ℕ) → Roomy m k linesLen tokensLen p → (z : State) → Reaches R z → (levels : ℕ) → length (z .widths) ≡ levels → p .ends ≡ true

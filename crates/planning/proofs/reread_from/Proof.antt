@@ -4,6 +4,7 @@ use Prim.Native.Nat.{ℕ, _+_, _-_, _*_, _≤_}
 use mathlib.Core.Path.{_≡_, refl, sym, ap, subst, _∙_}
 use mathlib.Core.Bool.{false≢true}
 use mathlib.Core.List.{List}
+use mathlib.Core.Logic.{inl}
 use native.Mathlib.Omega.{arith}
 use lib.ListN.{length, drop, length-drop, length-take}
 use lib.Seq.{take-all}
@@ -102,7 +103,7 @@ read-on-requires c κs =
                   s .pre .0 .1 .1,
                   (
                     (omega (arith, d, s .pre .1 .0 .1 .0), (l .load-state .ensures .1, l .load-state .kept .1 .1 .0)),
-                    record { ends = λ e. absurd (false≢true e); room = λ e. absurd (false≢true e); counts = λ e. refl },
+                    record { ends = λ e. absurd (false≢true e); room = λ e. absurd (false≢true e); few = inl refl },
                   ),
                 ),
               ),

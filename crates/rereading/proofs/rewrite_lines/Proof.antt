@@ -1,10 +1,10 @@
 -- `rereading::rewrite_lines` meets its contract: reading on comes to the end, since no tail is kept and every line reads.
 -- Assumes nothing.
 use Prim.Native.Nat.{ℕ, _+_}
-use mathlib.Core.Path.{_≡_, refl, sym, subst, _∙_}
-use mathlib.Core.Bool.{true, false≢true}
+use mathlib.Core.Path.{_≡_, refl, subst}
+use mathlib.Core.Bool.{true}
 use mathlib.Core.List.{List, [], _∷_}
-use mathlib.Core.Logic.{⊎-elim}
+use mathlib.Core.Logic.{inr, ⊎-elim}
 use native.Mathlib.Omega.{arith}
 use lib.ListN.{length, replicate}
 use types.Run.{OneOf}
@@ -33,7 +33,7 @@ module _ (s : tie.Start) where
   end = s .args .base + length text
 
   may-put : let a = s .args in MayPut true (readFrom 16 z (linesOf text)) end end (a .i) (a .first) (length (a .lines .now)) (length (a .tokens .now))
-  may-put = record { ends = λ _. omega arith; room = λ _. s .pre .1 .1 .1 .1 .1 .1 .1; counts = λ e. absurd (false≢true (sym e)) }
+  may-put = record { ends = λ _. omega arith; room = λ _. s .pre .1 .1 .1 .1 .1 .1 .1 .1; few = inr (s .pre .1 .1 .1 .1 .1 .1 .1 .0) }
 
   -- the text reads and keeps no tail, so it is read to its end
   comes-to-end : (old : List ℕ) (r : Reread) → RereadIs text old (s .args .base) (s .args .i) 0 0 0 end z r → OneOf (0 ∷ 2 ∷ 3 ∷ []) (tagOf the-type r) → ⊥
@@ -55,7 +55,7 @@ read-on-requires : tie.Need-read-on-requires
 read-on-requires c κs =
     let s = c .before .before .before .before .before .before .before .before in
     let p = s .pre in
-    (p .0, (p .1 .0, (p .1 .1 .0, (p .1 .1 .1 .0, (p .1 .1 .1 .1 .0, ((p .1 .1 .1 .1 .1 .0 .0, (p .1 .1 .1 .1 .1 .0 .1, (omega arith, omega arith))), ((omega arith, omega arith), (p .1 .1 .1 .1 .1 .1 .0, may-put s))))))))
+    (p .0, (p .1 .0, (p .1 .1 .0, (p .1 .1 .1 .0, (p .1 .1 .1 .1 .0, ((p .1 .1 .1 .1 .1 .0 .0, (p .1 .1 .1 .1 .1 .0 .1, (omega arith, omega arith))), ((omega arith, omega arith), (p .1 .1 .1 .1 .1 .1 .0, record { ends = λ _. omega arith; room = λ _. p .1 .1 .1 .1 .1 .1 .1 .1; few = inr (p .1 .1 .1 .1 .1 .1 .1 .0) }))))))))
 
 enum-known-s : tie.Need-enum-known-s
 enum-known-s c = search needs

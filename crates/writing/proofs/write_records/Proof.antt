@@ -11,7 +11,7 @@ use Rattle.line.specs.States.{stateOf}
 use Rattle.rereading.specs.Rewrites.{Reaches}
 use Rattle.planning.specs.Starts.{lineWord}
 use Rattle.planning.specs.Plans.{plannedLines, Planned}
-use Rattle.writing.proofs.Writes.{Bounds, bounds, Reached, new-le, part-lines, room-moved, end-room, lines-written, tokens-written}
+use Rattle.writing.proofs.Writes.{Bounds, bounds, Reached, new-le, part-lines, few-from, room-moved, end-room, lines-written, tokens-written}
 use borrow.Author.Needs.{needs}
 use Rattle.writing.proofs.write_records.Statement.{statement}
 use Rattle.writing.proofs.write_records.Tie as tie
@@ -176,7 +176,7 @@ rewrite-lines-requires c κs =
                 (omega (arith, length-take (s .args .p .new - base) (drop base E), length-drop base E, s .pre .0 .0, pl .base-le), pl .number),
                 (
                   (omega (arith, d, pl .depth), (l .load-state .ensures .1, l .load-state .kept .1 .1 .0)),
-                  room-moved pl (part-read l) (ml .move-lines .kept .0) (mt .move-tokens .kept .0) (s .pre .1 .1),
+                  (few-from pl (part-read l) (s .pre .1 .1), room-moved pl (part-read l) (ml .move-lines .kept .0) (mt .move-tokens .kept .0) (s .pre .1 .1)),
                 ),
               ),
             ),
