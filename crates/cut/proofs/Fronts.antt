@@ -5,6 +5,7 @@ use mathlib.Core.Path.{_≡_, refl, sym, ap, _∙_}
 use mathlib.Core.Bool.{Bool, true, false, _&&_}
 use mathlib.Core.List.{List, [], _∷_}
 use native.Mathlib.Omega.{arith}
+use native.Mathlib.Nat.{add-zero}
 use native.Mathlib.Numerals.{add-one}
 use lib.Dec.{eqb}
 use lib.ListN.{length, getD, take, drop, drop-of-length-le, length-drop}
@@ -78,6 +79,10 @@ pub trim-front : (f : ℕ → Bool) (l : List ℕ) → trimEnd f l ≡ take (len
 unfolding trimEnd
 trim-front f [] = refl
 trim-front f (x ∷ l) = trimmed-front (f x) x l (trimEnd f l) (trim-front f l)
+
+-- a byte literal begins with a `b`
+pub no-literal : (line : List ℕ) (at : ℕ) → at < length line → (getD line at 0 ≡ 98 → ⊥) → begins (ascii "b'") (drop at line) ≡ false
+no-literal line at h n = rw add-zero at (begins-other (ascii "b'") line at 0 (omega arith) (omega arith) (rw add-zero n))
 
 -- a line that has `b'` has them before its trailing CRs
 pub literal-room : (line : List ℕ) (at : ℕ) → begins (ascii "b'") (drop at line) ≡ true → at + 2 ≤ length (trimEnd isCR line)

@@ -2,7 +2,7 @@
 -- Assumes nothing.
 use Prim.Native.Nat.{ℕ, suc, _+_, _-_, _≤_, _<_}
 use Prim.Native.Char.{code}
-use mathlib.Core.Path.{_≡_, refl, sym, ap, ap₂, _∙_}
+use mathlib.Core.Path.{_≡_, refl, sym, ap, _∙_}
 use mathlib.Core.Bool.{Bool, true, false}
 use mathlib.Core.List.{List, [], _∷_}
 use native.Mathlib.Omega.{arith}
@@ -12,12 +12,12 @@ use lib.Seq.{drop-cons}
 use borrow.Author.Tests.{leb-true, le-ltb}
 use Rattle.rules.specs.Lists.{if_then_else_, within, ascii, elem, every, begins, run, same, trimEnd}
 use Rattle.rules.specs.Kinds.{Ident}
-use Rattle.rules.specs.Tables.{Spelling, isCR, isHexDigit, classOf, keywords, signs, wordKind, tableRules}
-use Rattle.rules.specs.Cut.{Cut, token, inWord, wordCut, numberCut, stringEnd, stringCut, closingCut, lowDigitCut, highDigitCut, escapeCut, contentCut, byteCut, signCut, cutBy, cut}
+use Rattle.rules.specs.Tables.{Spelling, isCR, isHexDigit, blankClass, letterClass, classOf, keywords, signs, wordKind, tableRules}
+use Rattle.rules.specs.Cut.{Cut, blank, token, inWord, wordCut, letterCut, numberCut, stringEnd, stringCut, closingCut, lowDigitCut, highDigitCut, escapeCut, contentCut, byteCut, signCut, cutBy, cut}
 use Rattle.rules.proofs.ListLaws.{if-by, and-true}
 use Rattle.spelling.specs.Bytes.{reaches}
 use Rattle.spelling.proofs.ReachLaws.{run-word}
-use Rattle.cut.specs.Cuts.{plainKind, plainCut, cutNamed, commentOr}
+use Rattle.cut.specs.Cuts.{plainKind, plainCut, kindAsked, cutNamed, commentOr}
 
 -- Words.
 
@@ -33,17 +33,25 @@ plain-word-kind w (k ∷ ks) e =
     let p = and-true (ltb (k .kind) Ident) (every (λ (k : Spelling). ltb (k .kind) Ident) ks) e in
     if-by (λ n. plainKind n ≡ Ident) (same (k .bytes) w) (λ _. rw (p .0)) (λ _. plain-word-kind w ks (p .1))
 
+pub word-below : (w : List ℕ) → plainKind (wordKind keywords w) ≡ Ident
+word-below w = plain-word-kind w keywords keywords-below
+
+pub named-below : (write : Bool) (w : List ℕ) → plainKind (kindAsked write (wordKind keywords w)) ≡ Ident
+unfolding plainKind
+named-below true w = word-below w
+named-below false w = ap plainKind (word-below w)
+
 module _ (line : List ℕ) (at end : ℕ) (e : end ≡ at + run (reaches 0) (drop at line)) where
   pub word-size : end - at ≡ run inWord (drop at line)
   word-size = omega (arith, run-word (drop at line))
 
-  pub word-plain : token Ident (end - at) ≡ plainCut (wordCut (drop at line))
-  unfolding wordCut
-  word-plain = ap₂ token (sym (plain-word-kind (take (run inWord (drop at line)) (drop at line)) keywords keywords-below)) word-size
-
-  pub word-named : token (wordKind keywords (take (end - at) (drop at line))) (end - at) ≡ wordCut (drop at line)
+  word-named : token (wordKind keywords (take (end - at) (drop at line))) (end - at) ≡ wordCut (drop at line)
   unfolding wordCut
   word-named = ap (λ (n : ℕ). token (wordKind keywords (take n (drop at line))) n) word-size
+
+  pub word-is : (w : Bool) → token (kindAsked w (wordKind keywords (take (end - at) (drop at line)))) (end - at) ≡ cutNamed w (wordCut (drop at line))
+  word-is true = word-named
+  word-is false = ap plainCut word-named
 
 -- Cuts that hold no word.
 
@@ -126,3 +134,15 @@ module _ (w : Bool) (line : List ℕ) (at : ℕ) (h : at < length line) where
 
   pub plain-class : (k : ℕ) → classOf (getD line at 0) ≡ k → Plain (cutBy k (drop at line)) → cutBy k (drop at line) ≡ cutNamed w (cut (drop at line))
   plain-class k e p = named-plain w (cutBy k (drop at line)) p ∙ in-class k e
+
+  -- a letter that does not begin `b'` begins a word
+  pub word-token : classOf (getD line at 0) ≡ letterClass → begins (ascii "b'") (drop at line) ≡ false → (end : ℕ) → end ≡ at + run (reaches 0) (drop at line)
+      → cutNamed w (cut (drop at line)) ≡ token (kindAsked w (wordKind keywords (take (end - at) (drop at line)))) (end - at)
+  unfolding cutBy letterCut
+  word-token e b end is =
+      let letter : cutBy letterClass (drop at line) ≡ wordCut (drop at line) = rw b in
+      sym (in-class letterClass e) ∙ ap (cutNamed w) letter ∙ sym (word-is line at end is w)
+
+pub blank-cut : (line : List ℕ) (at : ℕ) → at < length line → classOf (getD line at 0) ≡ blankClass → cut (drop at line) ≡ blank
+unfolding cutBy
+blank-cut line at h e = sym (in-class true line at h blankClass e)

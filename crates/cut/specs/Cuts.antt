@@ -53,6 +53,11 @@ plainCut rules-cut.Cut.ends = rules-cut.Cut.ends
 plainCut (rules-cut.Cut.token k n) = rules-cut.Cut.token (plainKind k) n
 plainCut (rules-cut.Cut.fails f) = rules-cut.Cut.fails f
 
+-- a word's kind, or Ident
+abbrev pub kindAsked : Bool → ℕ → ℕ
+kindAsked true k = k
+kindAsked false k = plainKind k
+
 -- a cut with the kinds of words, or without
 abbrev pub cutNamed : Bool → rules-cut.Cut → rules-cut.Cut
 cutNamed true c = c

@@ -2,9 +2,10 @@
 ghost use mathlib.Core.Path.{_≡_};
 ghost use mathlib.Core.Bool.{_||_};
 ghost use Prim.Native.Nat.{_+_, _-_, _≤_, _<_};
-ghost use lib.ListN.{length, drop, take};
+ghost use lib.ListN.{length, getD, drop, take};
 ghost use Rattle.rules.specs.Lists.{ascii, elem, begins, run, trimEnd};
-ghost use Rattle.rules.specs.Tables.{isCR, isDigit, isHexDigit};
+ghost use Rattle.rules.specs.Tables.{isCR, isDigit, isHexDigit, classOf, wordKind};
+ghost use Rattle.rules.specs.Tables as tables;
 ghost use Rattle.rules.specs.Cut.{
   failing,
   finding,
@@ -30,7 +31,7 @@ ghost use Rattle.rules.specs.Cut.{
 ghost use Rattle.spelling.specs.Bytes.{classTable, reachTable};
 ghost use Rattle.spelling.specs.Masks.{maskOf};
 ghost use Rattle.spelling.specs.Rows.{keywordTable, signTable, signIndexTable};
-ghost use Rattle.cut.specs.Cuts.{cutOf, cutNamed, numberOf, anySign, commentOr, isByte, isOther};
+ghost use Rattle.cut.specs.Cuts.{cutOf, kindAsked, cutNamed, numberOf, anySign, commentOr, isByte, isOther};
 
 // A failure of the rest of a line: its detail, the scalar that the detail shows, its offset and its range's length.
 pub struct Failure {
@@ -439,7 +440,19 @@ fn number_cut(reach: &[u8; 768], line: &[u8], at: usize) -> Cut
     Cut::Token(46, number.digits + number.suffix)
 }
 
-// A word: letters, digits, `_`; its kind only where it is asked for.
+// The kind of the word from `at` to `end`, where it is asked for; otherwise every word is an Ident.
+pub fn kind_of_word(keywords: &[u8; 539], line: &[u8], at: usize, end: usize, named: bool) -> u32
+    requires { ⌜ now keywords ≡ keywordTable ⌝ }
+    requires { ⌜ (at ≤ end) × (end ≤ length (now line)) ⌝ }
+    ensures { λ r. ⌜ r ≡ kindAsked named (wordKind tables.keywords (take (end - at) (drop at (now (line .entry))))) ⌝ }
+{
+    if named {
+        return spelling::word_kind(keywords, &line[at..end]);
+    }
+    45
+}
+
+// A word: letters, digits, `_`.
 fn word_cut(reach: &[u8; 768], keywords: &[u8; 539], line: &[u8], at: usize, named: bool) -> Cut
     requires { ⌜ now reach ≡ reachTable ⌝ }
     requires { ⌜ now keywords ≡ keywordTable ⌝ }
@@ -447,21 +460,28 @@ fn word_cut(reach: &[u8; 768], keywords: &[u8; 539], line: &[u8], at: usize, nam
     ensures { λ r. ⌜ cutOf r ≡ cutNamed named (wordCut (drop at (now (line .entry)))) ⌝ }
 {
     let end = spelling::run_end(reach, line, at, 0);
-    if named {
-        let kind = spelling::word_kind(keywords, &line[at..end]);
-        return Cut::Token(kind, end - at);
+    Cut::Token(kind_of_word(keywords, line, at, end, named), end - at)
+}
+
+// `b'` stands at `at`; only a `b` is looked behind.
+pub fn begins_literal(line: &[u8], at: usize) -> bool
+    requires { ⌜ at < length (now line) ⌝ }
+    ensures { λ r. ⌜ r ≡ begins (ascii "b'") (drop at (now (line .entry))) ⌝ }
+{
+    if line[at] != 98 {
+        return false;
     }
-    Cut::Token(45, end - at)
+    begins_at(line, at, b"b'")
 }
 
 // What a letter begins: a byte literal or a word.
 fn letter_cut(reach: &[u8; 768], keywords: &[u8; 539], line: &[u8], at: usize, named: bool) -> Cut
     requires { ⌜ now reach ≡ reachTable ⌝ }
     requires { ⌜ now keywords ≡ keywordTable ⌝ }
-    requires { ⌜ at ≤ length (now line) ⌝ }
+    requires { ⌜ at < length (now line) ⌝ }
     ensures { λ r. ⌜ cutOf r ≡ cutNamed named (letterCut (drop at (now (line .entry)))) ⌝ }
 {
-    if begins_at(line, at, b"b'") {
+    if begins_literal(line, at) {
         return scan_ascii_byte_literal(line, at);
     }
     word_cut(reach, keywords, line, at, named)
@@ -528,8 +548,10 @@ pub fn cut_by_class(
     }
 }
 
-// The same. The frequent classes stand apart, so that the loop over a line has them in its own code; the others are called for.
+// The same for a byte whose class is known. The frequent classes stand apart, so that the loop over a line has them in its own code; the
+// others are called for.
 pub fn next_token(
+    c: u8,
     class: &[u8; 256],
     reach: &[u8; 768],
     index: &[u8; 256],
@@ -544,13 +566,11 @@ pub fn next_token(
     requires { ⌜ now index ≡ signIndexTable ⌝ }
     requires { ⌜ now signs ≡ signTable ⌝ }
     requires { ⌜ now keywords ≡ keywordTable ⌝ }
-    requires { ⌜ at < length (now line) ⌝ }
+    requires { ⌜ (at < length (now line)) × (c ≡ classOf (getD (now line) at 0)) ⌝ }
     ensures { λ r. ⌜ cutOf r ≡ cutNamed named (cut (drop at (now (line .entry)))) ⌝ }
 {
-    match spelling::class_of(class, line[at]) {
-        0 => Cut::Blank,
+    match c {
         1 => Cut::Comment,
-        2 => letter_cut(reach, keywords, line, at, named),
         3 => number_cut(reach, line, at),
         5 => sign_or_comment(index, signs, line, at),
         _ => cut_by_class(class, reach, index, signs, keywords, line, at, named),

@@ -1,22 +1,22 @@
 -- The cuts of a line as a loop makes them: what was cut so far, and what is left.
 -- Assumes nothing.
-use Prim.Native.Nat.{ℕ, zero, suc, _+_, _*_, _≤_, _<_, pred}
+use Prim.Native.Nat.{ℕ, zero, suc, _+_, _-_, _*_, _≤_, _<_, pred}
 use mathlib.Core.Path.{_≡_, refl, sym, ap, subst, _∙_}
-use mathlib.Core.Bool.{Bool, true, false}
+use mathlib.Core.Bool.{Bool, true, false, not, _&&_, false≢true}
 use mathlib.Core.List.{List, [], _∷_, _++_, append-assoc, append-nil}
 use native.Mathlib.Omega.{arith}
 use native.Mathlib.Numerals.{add-one}
 use lib.Dec.{eqb}
 use lib.ListN.{length, drop, length-append, length-drop}
 use Rattle.rules.specs.Lists.{if_then_else_}
-use Rattle.rules.specs.Kinds.{Implies, LParen, RParen}
+use Rattle.rules.specs.Kinds.{Ident, Implies, LParen, RParen}
 use Rattle.rules.specs.Failure.{Failure}
 use Rattle.rules.specs.Cut.{blank, comment, token, fails, cut}
 use Rattle.rules.specs.Line.{Token, tokenAt, Cuts, cuts, stops, withToken, movedBy, cutsFrom, depthAfter, arrowAfter}
 use Rattle.rules.specs.Records.{tokenWords}
 use Rattle.rules.proofs.CutLaws.{TokenOk, cut-ok, cuts-end, cuts-blank, cuts-comment, cuts-token, cuts-fails}
 use Rattle.rules.proofs.RecordLaws.{length-tokenWords}
-use Rattle.cut.specs.Cuts.{cutNamed}
+use Rattle.cut.specs.Cuts.{plainKind, cutNamed}
 use Rattle.cut.proofs.Plain.{Named, named-token, plain-eqb}
 use Rattle.rules.proofs.ListLaws.{if-by}
 use Rattle.line.specs.States.{depthBy}
@@ -204,3 +204,27 @@ pub failure-at : (l : List ℕ) (at : ℕ) (f : Failure) → at < length l → c
 failure-at l at f h e =
     let ok : f .at + f .size ≤ length (drop at l) = rw e at (cut-ok (drop at l)) in
     omega (arith, ok, length-drop at l)
+
+-- a kind that is no sign's leaves the depth, and is no arrow
+word-keeps : (depth kind : ℕ) → plainKind kind ≡ Ident → (depth ≡ depthBy depth kind) × (eqb kind Implies ≡ false)
+unfolding depthBy plainKind
+word-keeps depth kind e =
+    (rw (plain-eqb LParen kind Ident (omega arith) e, plain-eqb RParen kind Ident (omega arith) e), plain-eqb Implies kind Ident (omega arith) e)
+
+-- a word that ends at `end`
+pub past-word : {l : List ℕ} {d₀ p number k : ℕ} {write : Bool} {tokens₀ tokens : List ℕ} {at n depth : ℕ} {arrow : Bool}
+    → Progress l d₀ p number k write tokens₀ tokens at n depth arrow → at < length l → (kind end : ℕ) → TokenAt write l at kind (end - at) → plainKind kind ≡ Ident
+    → (tokens′ : List ℕ) → tokens′ ≡ putIf write tokens (5 * (k + n)) (kind ∷ (p + at) ∷ (end - at) ∷ number ∷ (at + 1) ∷ [])
+    → Progress l d₀ p number k write tokens₀ tokens′ end (n + 1) depth false
+past-word {l} {d₀} {p} {number} {k} {write} {tokens₀} {tokens} {at} {n} {depth} v h kind end t low tokens′ written =
+    let kept = word-keeps depth kind low in
+    let there : at + (end - at) ≡ end = omega (arith, t .some-bytes) in
+    let past = past-token v h (t .real) kind (end - at) (t .is) (t .named) tokens′ written depth (kept .0) in
+    subst (λ (a : Bool). Progress l d₀ p number k write tokens₀ tokens′ end (n + 1) depth a) (kept .1)
+    (subst (λ (i : ℕ). Progress l d₀ p number k write tokens₀ tokens′ i (n + 1) depth (eqb kind Implies)) there past)
+
+-- a letter that does not begin `b'`
+pub word-begins : (a b : Bool) → (a && not b) ≡ true → (a ≡ true) × (b ≡ false)
+word-begins true false e = (refl, refl)
+word-begins true true e = absurd (false≢true e)
+word-begins false b e = absurd (false≢true e)

@@ -1,15 +1,15 @@
 // One line, read from the state before it.
 ghost use mathlib.Core.Path.{_≡_};
-ghost use mathlib.Core.Bool.{true, _||_};
+ghost use mathlib.Core.Bool.{true, not, _&&_, _||_};
 ghost use mathlib.Core.List.{[], _∷_};
 ghost use Prim.Native.Nat.{_+_, _-_, _*_, _≤_, _<_};
 ghost use lib.ListN.{length, drop, take};
 ghost use lib.Seq.{sets};
-ghost use Rattle.rules.specs.Lists.{run, trimEnd, lastD};
-ghost use Rattle.rules.specs.Tables.{isBlank};
+ghost use Rattle.rules.specs.Lists.{ascii, begins, run, trimEnd, lastD};
+ghost use Rattle.rules.specs.Tables.{isBlank, letterClass};
 ghost use Rattle.rules.specs.Line.{isSpace, isTab, indentWidth, indentSize, isBlankLine, isCompared, compared, levelsOf, dedents, cutsFrom, readLine};
 ghost use Rattle.rules.specs.Records.{tokenWords};
-ghost use lib.Dec.{ltb};
+ghost use lib.Dec.{ltb, eqb};
 ghost use Rattle.spelling.specs.Bytes.{classTable, reachTable};
 ghost use Rattle.spelling.specs.Rows.{keywordTable, signTable, signIndexTable};
 ghost use Rattle.line.specs.States.{stateOf, leading, comparedOf, widthsAfter, Within, depthBy};
@@ -243,6 +243,34 @@ pub fn put_token(
     put_five(tokens, 5 * k, kind, position, size, number, column);
 }
 
+// The same for a token that stands at an offset of the line which starts at `position` and has this number.
+fn put_cut(
+    tokens: &mut [u32],
+    write: bool,
+    k: usize,
+    kind: u32,
+    position: u32,
+    number: u32,
+    at: usize,
+    size: usize,
+)
+    requires { ⌜ (position + at ≤ 1_048_576) × (size ≤ 1_048_576) ⌝ }
+    requires { ⌜ (write ≡ true → 5 * k + 5 ≤ length (now tokens)) ⌝ }
+    ensures { λ _. ⌜ now (tokens .exit) ≡ putIf write (now (tokens .entry)) (5 * k) (kind ∷ (position + at) ∷ size ∷ number ∷ (at + 1) ∷ []) ⌝ }
+{
+    let offset = at as u32;
+    put_token(
+        tokens,
+        write,
+        k,
+        kind,
+        position + offset,
+        size as u32,
+        number,
+        offset + 1,
+    );
+}
+
 // So many Dedents from record k on, where the pass writes, at this position and line, column 1.
 pub fn put_dedents(
     tokens: &mut [u32],
@@ -285,6 +313,17 @@ pub enum LineCuts {
     Stops(cut::Failure),
 }
 
+// A word begins at `at`, where a byte of class c stands: a letter, and not `b'`.
+fn is_word(c: u8, line: &[u8], at: usize) -> bool
+    requires { ⌜ at < length (now line) ⌝ }
+    ensures { λ r. ⌜ r ≡ (eqb c letterClass && not (begins (ascii "b'") (drop at (now (line .entry))))) ⌝ }
+{
+    if c != 2 {
+        return false;
+    }
+    !cut::begins_literal(line, at)
+}
+
 // The tokens of a line, where the pass writes from record k on: the line starts at `position` and has this number.
 // A pass that does not write asks for no kinds of words.
 pub fn cut_line(
@@ -316,7 +355,21 @@ pub fn cut_line(
     let mut open = depth;
     let mut arrow = false;
     while at < line.len() {
-        match cut::next_token(class, reach, index, signs, keywords, line, at, write) {
+        let c = spelling::class_of(class, line[at]);
+        if c == 0 {
+            at += 1;
+            continue;
+        }
+        if is_word(c, line, at) {
+            let end = spelling::run_end(reach, line, at, 0);
+            let kind = cut::kind_of_word(keywords, line, at, end, write);
+            put_cut(tokens, write, k + n, kind, position, number, at, end - at);
+            arrow = false;
+            n += 1;
+            at = end;
+            continue;
+        }
+        match cut::next_token(c, class, reach, index, signs, keywords, line, at, write) {
             cut::Cut::Blank => {
                 at += 1;
                 continue;
@@ -325,16 +378,7 @@ pub fn cut_line(
                 return LineCuts::Ends(n, open, arrow);
             }
             cut::Cut::Token(kind, size) => {
-                put_token(
-                    tokens,
-                    write,
-                    k + n,
-                    kind,
-                    position + at as u32,
-                    size as u32,
-                    number,
-                    at as u32 + 1,
-                );
+                put_cut(tokens, write, k + n, kind, position, number, at, size);
                 open = depth_by(open, kind);
                 arrow = kind == 67;
                 n += 1;

@@ -1,15 +1,13 @@
 -- `cut::word_cut` meets its contract.
 -- Assumes nothing.
 use Prim.Native.Nat.{ℕ, _+_, _-_, _≤_}
-use mathlib.Core.Path.{_≡_, refl, sym, ap, _∙_}
-use mathlib.Core.Bool.{Bool, true, false}
+use mathlib.Core.Path.{_≡_, ap, _∙_}
 use native.Mathlib.Omega.{arith}
-use lib.ListN.{length, drop, take}
-use Rattle.rules.specs.Cut.{token, wordCut}
+use lib.ListN.{length}
+use Rattle.rules.specs.Cut.{token}
 use Rattle.spelling.specs.Bytes.{reaches}
 use Rattle.spelling.proofs.ReachLaws.{run-inside}
-use Rattle.cut.specs.Cuts.{cutNamed}
-use Rattle.cut.proofs.Words.{word-plain, word-named}
+use Rattle.cut.proofs.Words.{word-is}
 use borrow.Author.Needs.{needs}
 use Rattle.cut.proofs.word_cut.Statement.{statement}
 use Rattle.cut.proofs.word_cut.Tie as tie
@@ -17,50 +15,21 @@ use Rattle.cut.proofs.word_cut.Tie as tie
 run-end-requires : tie.Need-run-end-requires
 run-end-requires c κs = search needs
 
-sub-word-kind : tie.Need-sub-word-kind
-sub-word-kind c = omega (arith, c .before .run-end .ensures)
+kind-of-word-requires : tie.Need-kind-of-word-requires
+kind-of-word-requires c κs =
+    let s = c .before .before in
+    let end = c .run-end .ensures in
+    (s .pre .1 .0, (omega (arith, end), omega (arith, end, run-inside (reaches 0) (s .args .line .now) (s .args .at) (s .pre .1 .1))))
 
-part-word-kind-start : tie.Need-part-word-kind-start
-part-word-kind-start c = omega (arith, c .before .run-end .ensures)
-
-part-word-kind-end : tie.Need-part-word-kind-end
-part-word-kind-end c =
-    let a = c .before .before .before .args in
-    omega (arith, c .before .run-end .ensures, run-inside (reaches 0) (a .line .now) (a .at) (c .before .before .before .pre .1 .1))
-
-word-kind-requires : tie.Need-word-kind-requires
-word-kind-requires c κs = search needs
-
-sub-t10 : tie.Need-sub-t10
-sub-t10 c = omega (arith, c .before .before .before .run-end .ensures)
+sub-t8 : tie.Need-sub-t8
+sub-t8 c = omega (arith, c .before .run-end .ensures)
 
 returns : tie.Need-returns
 returns c =
-    let a = c .before .before .before .before .before .args in
-    let end = c .before .before .before .run-end .result in
-    ap (λ (k : ℕ). token k (end - a .at)) (c .word-kind .ensures)
-    ∙ word-named (a .line .now) (a .at) end (c .before .before .before .run-end .ensures)
-    ∙ ap (λ (w : Bool). cutNamed w (wordCut (drop (a .at) (a .line .now)))) (sym (c .before .before .if1 .taken))
-
-sub-t13 : tie.Need-sub-t13
-sub-t13 c = omega (arith, c .before .run-end .ensures)
-
-returns-2 : tie.Need-returns-2
-returns-2 c =
     let a = c .before .before .before .args in
-    word-plain (a .line .now) (a .at) (c .before .run-end .result) (c .before .run-end .ensures)
-    ∙ ap (λ (w : Bool). cutNamed w (wordCut (drop (a .at) (a .line .now)))) (sym (c .if1 .left))
+    let end = c .before .run-end in
+    ap (λ (k : ℕ). token k (end .result - a .at)) (c .kind-of-word .ensures)
+    ∙ word-is (a .line .now) (a .at) (end .result) (end .ensures) (a .named)
 
 pub word-cut-spec : {M : Type 1} → statement M
-word-cut-spec =
-    tie.close
-    (tie.spec
-    run-end-requires
-    sub-word-kind
-    part-word-kind-start
-    part-word-kind-end
-    word-kind-requires
-    sub-t10
-    returns
-    sub-t13
-    returns-2)
+word-cut-spec = tie.close (tie.spec run-end-requires kind-of-word-requires sub-t8 returns)
