@@ -12,7 +12,8 @@ ghost use Rattle.rules.specs.Page.{isRecorded};
 ghost use Rattle.rules.specs.Check.{checkReply};
 ghost use Rattle.header.specs.Pages.{page};
 ghost use Rattle.spelling.specs.Bytes.{classTable, reachTable};
-ghost use Rattle.spelling.specs.Rows.{keywordTable, signTable, signIndexTable};
+ghost use Rattle.spelling.specs.Rows.{keywordTable};
+ghost use Rattle.spelling.specs.Signs.{signTable, signIndexTable};
 ghost use Rattle.line.specs.States.{stateOf, leading};
 ghost use Rattle.line.specs.LineCuts.{lineCutsOf, tokensOf, wholeLine, lineReadOf, tokensIn, counted};
 ghost use Rattle.checking.specs.Same.{sameCutsIf, sameLineIf, agreedIf, agreedOf, LevelsWithin};
@@ -117,7 +118,7 @@ fn same_cuts(
     class: &[u8; 256],
     reach: &[u8; 768],
     index: &[u8; 256],
-    signs: &[u8; 451],
+    signs: &[u8; 360],
     keywords: &[u8; 539],
     line: &[u8],
     tokens: &[u32],
@@ -177,7 +178,7 @@ fn tokens_agree(
     class: &[u8; 256],
     reach: &[u8; 768],
     index: &[u8; 256],
-    signs: &[u8; 451],
+    signs: &[u8; 360],
     keywords: &[u8; 539],
     line: &[u8],
     tokens: &[u32],
@@ -236,7 +237,7 @@ fn line_agrees(
     class: &[u8; 256],
     reach: &[u8; 768],
     index: &[u8; 256],
-    signs: &[u8; 451],
+    signs: &[u8; 360],
     keywords: &[u8; 539],
     line: &[u8],
     tokens: &[u32],
@@ -346,7 +347,7 @@ fn lines_agree(
     class: &[u8; 256],
     reach: &[u8; 768],
     index: &[u8; 256],
-    signs: &[u8; 451],
+    signs: &[u8; 360],
     keywords: &[u8; 539],
     text: &[u8],
     lines: &[u32],

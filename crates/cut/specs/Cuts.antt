@@ -33,13 +33,9 @@ isByte byte b = eqb b byte
 abbrev pub isOther : (byte b : ℕ) → Bool
 isOther byte b = not (eqb b byte)
 
--- the first sign of the table that a text begins with
-abbrev pub anySign : List ℕ → rules-cut.Cut
-anySign s = rules-cut.signCut signs s
-
 -- a comment, or a sign
 abbrev pub commentOr : List ℕ → rules-cut.Cut
-commentOr s = if begins (ascii "//") s then rules-cut.Cut.comment else anySign s
+commentOr s = if begins (ascii "//") s then rules-cut.Cut.comment else rules-cut.signCut signs s
 
 -- A pass that only counts takes every word for an Ident.
 

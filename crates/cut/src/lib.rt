@@ -30,8 +30,9 @@ ghost use Rattle.rules.specs.Cut.{
 };
 ghost use Rattle.spelling.specs.Bytes.{classTable, reachTable};
 ghost use Rattle.spelling.specs.Masks.{maskOf};
-ghost use Rattle.spelling.specs.Rows.{keywordTable, signTable, signIndexTable};
-ghost use Rattle.cut.specs.Cuts.{cutOf, kindAsked, cutNamed, numberOf, anySign, commentOr, isByte, isOther};
+ghost use Rattle.spelling.specs.Rows.{keywordTable};
+ghost use Rattle.spelling.specs.Signs.{signTable, signIndexTable};
+ghost use Rattle.cut.specs.Cuts.{cutOf, kindAsked, cutNamed, numberOf, commentOr, isByte, isOther};
 
 // A failure of the rest of a line: its detail, the scalar that the detail shows, its offset and its range's length.
 pub struct Failure {
@@ -487,35 +488,27 @@ fn letter_cut(reach: &[u8; 768], keywords: &[u8; 539], line: &[u8], at: usize, n
     word_cut(reach, keywords, line, at, named)
 }
 
-// The first sign that the rest begins with; what is left is a lone `&`.
-fn sign_cut(index: &[u8; 256], signs: &[u8; 451], line: &[u8], at: usize) -> Cut
+// What a byte of the class of signs begins: a sign, a comment, or with neither a lone `&`.
+fn sign_or_comment(index: &[u8; 256], signs: &[u8; 360], line: &[u8], at: usize) -> Cut
     requires { ⌜ now index ≡ signIndexTable ⌝ }
     requires { ⌜ now signs ≡ signTable ⌝ }
-    requires { ⌜ at ≤ length (now line) ⌝ }
-    ensures { λ r. ⌜ cutOf r ≡ anySign (drop at (now (line .entry))) ⌝ }
-{
-    match spelling::sign_at(index, signs, &line[at..]) {
-        spelling::Spelled::Kind(kind, size) => Cut::Token(kind, size),
-        spelling::Spelled::Unspelled => Cut::Fails(Failure {
-            detail: 2,
-            found: 0,
-            at: 0,
-            size: 1,
-        }),
-    }
-}
-
-// What a byte of the class of signs begins: a comment or a sign.
-fn sign_or_comment(index: &[u8; 256], signs: &[u8; 451], line: &[u8], at: usize) -> Cut
-    requires { ⌜ now index ≡ signIndexTable ⌝ }
-    requires { ⌜ now signs ≡ signTable ⌝ }
-    requires { ⌜ at ≤ length (now line) ⌝ }
+    requires { ⌜ at < length (now line) ⌝ }
     ensures { λ r. ⌜ cutOf r ≡ commentOr (drop at (now (line .entry))) ⌝ }
 {
-    if begins_at(line, at, b"//") {
+    let code = spelling::sign_code(index, signs, line, at);
+    if 1 < code {
+        let size = (code / 128) as usize + 1;
+        return Cut::Token(code % 128, size);
+    }
+    if code == 1 {
         return Cut::Comment;
     }
-    sign_cut(index, signs, line, at)
+    Cut::Fails(Failure {
+        detail: 2,
+        found: 0,
+        at: 0,
+        size: 1,
+    })
 }
 
 // The cut at `at`, by the class of the byte there. The tables are lent.
@@ -523,7 +516,7 @@ pub fn cut_by_class(
     class: &[u8; 256],
     reach: &[u8; 768],
     index: &[u8; 256],
-    signs: &[u8; 451],
+    signs: &[u8; 360],
     keywords: &[u8; 539],
     line: &[u8],
     at: usize,
@@ -555,7 +548,7 @@ pub fn next_token(
     class: &[u8; 256],
     reach: &[u8; 768],
     index: &[u8; 256],
-    signs: &[u8; 451],
+    signs: &[u8; 360],
     keywords: &[u8; 539],
     line: &[u8],
     at: usize,

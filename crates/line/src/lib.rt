@@ -11,7 +11,8 @@ ghost use Rattle.rules.specs.Line.{isSpace, isTab, indentWidth, indentSize, isB
 ghost use Rattle.rules.specs.Records.{tokenWords};
 ghost use lib.Dec.{ltb, eqb};
 ghost use Rattle.spelling.specs.Bytes.{classTable, reachTable};
-ghost use Rattle.spelling.specs.Rows.{keywordTable, signTable, signIndexTable};
+ghost use Rattle.spelling.specs.Rows.{keywordTable};
+ghost use Rattle.spelling.specs.Signs.{signTable, signIndexTable};
 ghost use Rattle.line.specs.States.{stateOf, leading, comparedOf, widthsAfter, Within, depthBy};
 ghost use Rattle.line.specs.LineCuts.{lineCutsOf, tokensOf, RoomFor, wholeLine, lineReadOf, tokensIn, RoomIn, counted, countedOf, LevelsWithin};
 ghost use Rattle.laws.specs.Puts.{putIf};
@@ -330,7 +331,7 @@ pub fn cut_line(
     class: &[u8; 256],
     reach: &[u8; 768],
     index: &[u8; 256],
-    signs: &[u8; 451],
+    signs: &[u8; 360],
     keywords: &[u8; 539],
     line: &[u8],
     tokens: &mut [u32],
@@ -430,7 +431,7 @@ fn cut_after(
     class: &[u8; 256],
     reach: &[u8; 768],
     index: &[u8; 256],
-    signs: &[u8; 451],
+    signs: &[u8; 360],
     keywords: &[u8; 539],
     line: &[u8],
     tokens: &mut [u32],
@@ -497,7 +498,7 @@ pub fn read_line(
     class: &[u8; 256],
     reach: &[u8; 768],
     index: &[u8; 256],
-    signs: &[u8; 451],
+    signs: &[u8; 360],
     keywords: &[u8; 539],
     line: &[u8],
     tokens: &mut [u32],

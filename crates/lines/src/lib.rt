@@ -12,7 +12,8 @@ ghost use Rattle.rules.specs.Line.{readLine};
 ghost use Rattle.rules.specs.Reading.{notLF, lineAt, sizeAt};
 ghost use Rattle.rules.specs.Records.{packed, lineRecord, tokenWords};
 ghost use Rattle.spelling.specs.Bytes.{classTable, reachTable};
-ghost use Rattle.spelling.specs.Rows.{keywordTable, signTable, signIndexTable};
+ghost use Rattle.spelling.specs.Rows.{keywordTable};
+ghost use Rattle.spelling.specs.Signs.{signTable, signIndexTable};
 ghost use Rattle.cut.specs.Cuts.{failureOf};
 ghost use Rattle.line.specs.States.{stateOf};
 ghost use Rattle.line.specs.LineCuts.{tokensIn, RoomIn};
@@ -146,7 +147,7 @@ pub fn next_line(
     class: &[u8; 256],
     reach: &[u8; 768],
     index: &[u8; 256],
-    signs: &[u8; 451],
+    signs: &[u8; 360],
     keywords: &[u8; 539],
     text: &[u8],
     at: usize,

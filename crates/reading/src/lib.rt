@@ -9,7 +9,8 @@ ghost use Rattle.rules.specs.Records.{readLines};
 ghost use Rattle.rules.specs.Replies.{barge};
 ghost use Rattle.rules.specs.Read.{filledBy, readInto};
 ghost use Rattle.spelling.specs.Bytes.{classTable, reachTable};
-ghost use Rattle.spelling.specs.Rows.{keywordTable, signTable, signIndexTable};
+ghost use Rattle.spelling.specs.Rows.{keywordTable};
+ghost use Rattle.spelling.specs.Signs.{signTable, signIndexTable};
 ghost use Rattle.laws.specs.Puts.{putIf};
 ghost use Rattle.reading.specs.Passes.{passOf, linesIn, tokensIn, RoomIn, Counted};
 ghost use Rattle.reading.specs.Answers.{readNumbers};
@@ -26,7 +27,7 @@ pub fn pass_lines(
     class: &[u8; 256],
     reach: &[u8; 768],
     index: &[u8; 256],
-    signs: &[u8; 451],
+    signs: &[u8; 360],
     keywords: &[u8; 539],
     text: &[u8],
     lines: &mut [u32],
@@ -127,7 +128,7 @@ fn store_records(
     class: &[u8; 256],
     reach: &[u8; 768],
     index: &[u8; 256],
-    signs: &[u8; 451],
+    signs: &[u8; 360],
     keywords: &[u8; 539],
     text: &[u8],
     lines: &mut [u32],

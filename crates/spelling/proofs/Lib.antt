@@ -3,3 +3,4 @@ pub mod ReachLaws
 pub mod SearchLaws
 pub mod GroupLaws
 pub mod TableLaws
+pub mod SignLaws

@@ -4,7 +4,6 @@ use Prim.Native.Nat.{ℕ, suc, _+_, _-_, _*_, _≤_, _<_}
 use mathlib.Core.Path.{_≡_, refl, sym, ap, _∙_}
 use mathlib.Core.Bool.{Bool, true, false}
 use mathlib.Core.List.{List, _∷_}
-use mathlib.Core.Option.{Option, some}
 use native.Mathlib.Omega.{arith}
 use native.Mathlib.Numerals.{add-one}
 use native.Mathlib.Nat.{add-zero}
@@ -14,10 +13,8 @@ use borrow.Author.Tests.{eq-eqb, ne-eqb}
 use Rattle.rules.specs.Lists.{if_then_else_, begins, same}
 use Rattle.rules.specs.Kinds.{Ident}
 use Rattle.rules.specs.Tables.{Spelling, wordKind}
-use Rattle.rules.proofs.ListLaws.{begins-le}
-use Rattle.spelling.specs.Rows.{rowAt, rowsFrom, findIn, spelledOf}
+use Rattle.spelling.specs.Rows.{rowAt, rowsFrom}
 use Rattle.spelling.proofs.GroupLaws.{same-begins, same-not}
-use Rattle.spelling.specs.declared.Spelled.the-variants.{Kind, Unspelled}
 
 -- the bytes of a row at `base`, `len` of them, agree with the text from byte i on
 abbrev pub agreeFrom : (t s : List ℕ) (base len i : ℕ) → Bool
@@ -46,15 +43,6 @@ module _ (t s : List ℕ) (base len : ℕ) (fits : base + 2 + len ≤ length t) 
       let n : len - i ≡ 0 = omega arith in
       rw n
 
-  -- the text is shorter than the row
-  agree-short : length s < len → agreeFrom t s base len 0 ≡ false
-  agree-short h = go (agreeFrom t s base len 0) refl
-    where
-      go : (b : Bool) → agreeFrom t s base len 0 ≡ b → b ≡ false
-      go false e = refl
-      go true e =
-          absurd (omega (arith, begins-le _ _ e, length-take-le (len - 0) (drop (base + 2 + 0) t) (simp length-drop (omega arith))))
-
 -- the length of row k
 abbrev pub lengthAt : (t : List ℕ) (k : ℕ) → ℕ
 lengthAt t k = getD t (11 * k) 0
@@ -63,50 +51,6 @@ lengthAt t k = getD t (11 * k) 0
 pub record Row (t : List ℕ) (to k : ℕ) : Type 0 where
   pub before : k < to
   pub fits : 11 * k + 2 + lengthAt t k ≤ length t
-
--- row k agrees with the text from byte i on
-abbrev pub agrees : (t s : List ℕ) (k i : ℕ) → Bool
-agrees t s k i = agreeFrom t s (11 * k) (lengthAt t k) i
-
--- the search from row k on; `found` is what the whole search gives
-module _ {t : List ℕ} {to k : ℕ} (r : Row t to k) (s : List ℕ) {found : Option Spelling} (inv : found ≡ findIn (rowsFrom t k (to - k)) s) where
-  at-row : found ≡ (if agrees t s k 0 then some (rowAt t k) else findIn (rowsFrom t (k + 1) (to - (k + 1))) s)
-  unfolding rowsFrom findIn rowAt
-  at-row =
-      let h = r .before in
-      let n : to - k ≡ suc (to - (k + 1)) = omega arith in
-      let z : lengthAt t k - 0 ≡ lengthAt t k = omega arith in
-      inv ∙ rw (n, add-one k, z, add-zero (11 * k + 2))
-
-  -- the text is shorter
-  pub row-short : length s < lengthAt t k → found ≡ findIn (rowsFrom t (k + 1) (to - (k + 1))) s
-  row-short h = at-row ∙ rw (agree-short t s (11 * k) (lengthAt t k) (r .fits) h)
-
-  module _ (i : ℕ) (same : agrees t s k 0 ≡ agrees t s k i) where
-    -- byte i differs
-    pub row-passed : i < lengthAt t k → lengthAt t k ≤ length s → (getD t (11 * k + 2 + i) 0 ≡ getD s i 0 → ⊥)
-        → found ≡ findIn (rowsFrom t (k + 1) (to - (k + 1))) s
-    row-passed h l e = at-row ∙ rw (same ∙ agree-not t s (11 * k) (lengthAt t k) (r .fits) i h l e)
-
-    -- byte i agrees
-    pub row-goes : i < lengthAt t k → lengthAt t k ≤ length s → getD t (11 * k + 2 + i) 0 ≡ getD s i 0 → agrees t s k 0 ≡ agrees t s k (i + 1)
-    row-goes h l e = same ∙ agree-more t s (11 * k) (lengthAt t k) (r .fits) i h l e
-
-    -- no byte is left
-    pub row-taken : lengthAt t k ≤ i → spelledOf found ≡ Kind (getD t (11 * k + 1) 0) (lengthAt t k)
-    unfolding rowAt spelledOf
-    row-taken h =
-        let f = r .fits in
-        let a : agrees t s k 0 ≡ true = same ∙ agree-end t s (11 * k) (lengthAt t k) f i h in
-        let l : length (take (lengthAt t k) (drop (11 * k + 2) t)) ≡ lengthAt t k = length-take-le _ (drop (11 * k + 2) t) (simp length-drop (omega arith)) in
-        rw (at-row, a, l)
-
--- no row is left
-pub rows-end : (t s : List ℕ) (to k : ℕ) {found : Option Spelling} → found ≡ findIn (rowsFrom t k (to - k)) s → to ≤ k → spelledOf found ≡ Unspelled
-unfolding rowsFrom findIn spelledOf
-rows-end t s to k inv h =
-    let n : to - k ≡ 0 = omega arith in
-    rw (inv, n)
 
 -- The search for a word, from row k on; `kind` is what the whole search gives.
 module _ {t : List ℕ} {to k : ℕ} (r : Row t to k) (w : List ℕ) {kind : ℕ} (inv : kind ≡ wordKind (rowsFrom t k (to - k)) w) where

@@ -1,19 +1,13 @@
-// Byte classes, runs of bytes, and the search through the spellings of keywords and signs.
+// Byte classes, runs of bytes, the search through the spellings of keywords, and signs by their first two bytes.
 ghost use mathlib.Core.Path.{_≡_};
-ghost use Prim.Native.Nat.{ℕ, _+_, _-_, _*_, _≤_, _<_};
-ghost use lib.ListN.{length, getD, drop};
-ghost use Rattle.rules.specs.Lists.{bit, run};
-ghost use Rattle.rules.specs.Tables.{classOf, keywords, signs, wordKind};
+ghost use Prim.Native.Nat.{ℕ, _+_, _≤_, _<_};
+ghost use lib.ListN.{length, drop};
+ghost use Rattle.rules.specs.Lists.{bit, run, ascii, begins};
+ghost use Rattle.rules.specs.Tables.{classOf, keywords, wordKind};
 ghost use Rattle.spelling.specs.Bytes.{classTable, reachTable, reaches, misses};
 ghost use Rattle.spelling.specs.Masks.{maskOf};
-ghost use Rattle.spelling.specs.Rows.{
-  rowsFrom,
-  findIn,
-  spelledOf,
-  keywordTable,
-  signTable,
-  signIndexTable,
-};
+ghost use Rattle.spelling.specs.Rows.{keywordTable};
+ghost use Rattle.spelling.specs.Signs.{signCode, columnOf, longerBy, signTable, signIndexTable};
 
 // The class of each byte: 0 blank, 1 `#`, 2 letter, 3 digit, 4 quote, 5 sign, 6 other.
 const CLASS: [u8; 256] = *b"\
@@ -165,40 +159,6 @@ pub fn run_end(table: &[u8; 768], line: &[u8], at: usize, which: usize) -> usize
     run_by_bytes(table, line, i, which)
 }
 
-// A spelling that was found, its kind and its length; or none.
-pub enum Spelled {
-    Kind(u32, usize),
-    Unspelled,
-}
-
-// The first of the rows from `from` to `to` whose bytes `s` begins with. A row is left at its first byte that differs.
-fn find_spelling(table: &[u8], from: usize, to: usize, s: &[u8]) -> Spelled
-    requires { ⌜ 11 * to ≤ length (now table) ⌝ }
-    requires { ⌜ ((i : ℕ) → i < to → getD (now table) (11 * i) 0 ≤ 9) ⌝ }
-    ensures { λ r. ⌜ r ≡ spelledOf (findIn (rowsFrom (now (table .entry)) from (to - from)) (now (s .entry))) ⌝ }
-{
-    let mut row = from;
-    'rows: loop {
-        if to <= row {
-            break 'rows Spelled::Unspelled;
-        }
-        let base = 11 * row;
-        row += 1;
-        let len = table[base] as usize;
-        if s.len() < len {
-            continue 'rows;
-        }
-        let mut i: usize = 0;
-        while i < len {
-            if table[base + 2 + i] != s[i] {
-                continue 'rows;
-            }
-            i += 1;
-        }
-        break 'rows Spelled::Kind(table[base + 1] as u32, len);
-    }
-}
-
 // The keyword spellings, those of one first letter together, whether it is large or small: length, kind and nine bytes a row. Behind the
 // 46 rows: the row at which the spellings of each letter begin, by the letter's last five bits, and where the last ones end.
 const KEYWORDS: [u8; 539] = *b"\
@@ -294,60 +254,17 @@ pub fn word_kind(table: &[u8; 539], word: &[u8]) -> u32
     }
 }
 
-// The signs, those of one first byte together, longest first: length, kind and nine bytes a row.
-const SIGNS: [u8; 451] = *b"\
-    \x02\x46!=\0\0\0\0\0\0\0\
-    \x01\x41!\0\0\0\0\0\0\0\0\
-    \x02\x3b%=\0\0\0\0\0\0\0\
-    \x01\x40%\0\0\0\0\0\0\0\0\
-    \x03\x35&&=\0\0\0\0\0\0\
-    \x02\x31&&\0\0\0\0\0\0\0\
-    \x01\x4e(\0\0\0\0\0\0\0\0\
-    \x01\x4f)\0\0\0\0\0\0\0\0\
-    \x02\x39*=\0\0\0\0\0\0\0\
-    \x01\x3e*\0\0\0\0\0\0\0\0\
-    \x02\x37+=\0\0\0\0\0\0\0\
-    \x01\x3c+\0\0\0\0\0\0\0\0\
-    \x01\x51,\0\0\0\0\0\0\0\0\
-    \x02\x43->\0\0\0\0\0\0\0\
-    \x02\x38-=\0\0\0\0\0\0\0\
-    \x01\x3d-\0\0\0\0\0\0\0\0\
-    \x03\x4a..=\0\0\0\0\0\0\
-    \x02\x49..\0\0\0\0\0\0\0\
-    \x01\x54.\0\0\0\0\0\0\0\0\
-    \x02\x3a/=\0\0\0\0\0\0\0\
-    \x01\x3f/\0\0\0\0\0\0\0\0\
-    \x02\x53::\0\0\0\0\0\0\0\
-    \x02\x4b:=\0\0\0\0\0\0\0\
-    \x01\x52:\0\0\0\0\0\0\0\0\
-    \x01\x50;\0\0\0\0\0\0\0\0\
-    \x02\x47<=\0\0\0\0\0\0\0\
-    \x01\x57<\0\0\0\0\0\0\0\0\
-    \x02\x45==\0\0\0\0\0\0\0\
-    \x02\x44=>\0\0\0\0\0\0\0\
-    \x01\x4b=\0\0\0\0\0\0\0\0\
-    \x02\x48>=\0\0\0\0\0\0\0\
-    \x01\x58>\0\0\0\0\0\0\0\0\
-    \x01\x55[\0\0\0\0\0\0\0\0\
-    \x01\x56]\0\0\0\0\0\0\0\0\
-    \x01\x59_\0\0\0\0\0\0\0\0\
-    \x01\x4c{\0\0\0\0\0\0\0\0\
-    \x03\x36||=\0\0\0\0\0\0\
-    \x02\x32||\0\0\0\0\0\0\0\
-    \x02\x33|>\0\0\0\0\0\0\0\
-    \x01\x34|\0\0\0\0\0\0\0\0\
-    \x01\x4d}\0\0\0\0\0\0\0\0";
-
-// Where the signs of each first byte stand: five times their first row, and their number; 0 where there is none.
+// The sign that a byte begins, where no sign that begins with it is longer: its kind, or 0 where there is none. For the other bytes 128
+// more than eight times their row.
 const SIGN_ROWS: [u8; 256] = *b"\
     \x00\x00\x00\x00\x00\x00\x00\x00\x00\x00\x00\x00\x00\x00\x00\x00\
     \x00\x00\x00\x00\x00\x00\x00\x00\x00\x00\x00\x00\x00\x00\x00\x00\
-    \x00\x02\x00\x00\x00\x0c\x16\x00\x1f\x24\x2a\x34\x3d\x44\x53\x61\
-    \x00\x00\x00\x00\x00\x00\x00\x00\x00\x00\x6c\x79\x7f\x8a\x98\x00\
+    \x00\x80\x00\x00\x00\x88\x90\x00\x4e\x4f\x98\xa0\x51\xa8\xb0\xb8\
+    \x00\x00\x00\x00\x00\x00\x00\x00\x00\x00\xc0\x50\xc8\xd0\xd8\x00\
     \x00\x00\x00\x00\x00\x00\x00\x00\x00\x00\x00\x00\x00\x00\x00\x00\
-    \x00\x00\x00\x00\x00\x00\x00\x00\x00\x00\x00\xa1\x00\xa6\x00\xab\
+    \x00\x00\x00\x00\x00\x00\x00\x00\x00\x00\x00\x55\x00\x56\x00\x59\
     \x00\x00\x00\x00\x00\x00\x00\x00\x00\x00\x00\x00\x00\x00\x00\x00\
-    \x00\x00\x00\x00\x00\x00\x00\x00\x00\x00\x00\xb0\xb8\xc9\x00\x00\
+    \x00\x00\x00\x00\x00\x00\x00\x00\x00\x00\x00\x4c\xe0\x4d\x00\x00\
     \x00\x00\x00\x00\x00\x00\x00\x00\x00\x00\x00\x00\x00\x00\x00\x00\
     \x00\x00\x00\x00\x00\x00\x00\x00\x00\x00\x00\x00\x00\x00\x00\x00\
     \x00\x00\x00\x00\x00\x00\x00\x00\x00\x00\x00\x00\x00\x00\x00\x00\
@@ -357,35 +274,98 @@ const SIGN_ROWS: [u8; 256] = *b"\
     \x00\x00\x00\x00\x00\x00\x00\x00\x00\x00\x00\x00\x00\x00\x00\x00\
     \x00\x00\x00\x00\x00\x00\x00\x00\x00\x00\x00\x00\x00\x00\x00\x00";
 
+// The column of the byte after a sign's first: = > . : & | / or another. Behind the 256 columns: for the rows ! % & * + - . / : < = > | and
+// each column the kind of the sign, with 128 more where it has both bytes; 1 for a comment, 0 for a lone `&`.
+const SIGNS: [u8; 360] = *b"\
+    \x07\x07\x07\x07\x07\x07\x07\x07\x07\x07\x07\x07\x07\x07\x07\x07\
+    \x07\x07\x07\x07\x07\x07\x07\x07\x07\x07\x07\x07\x07\x07\x07\x07\
+    \x07\x07\x07\x07\x07\x07\x04\x07\x07\x07\x07\x07\x07\x07\x02\x06\
+    \x07\x07\x07\x07\x07\x07\x07\x07\x07\x07\x03\x07\x07\x00\x01\x07\
+    \x07\x07\x07\x07\x07\x07\x07\x07\x07\x07\x07\x07\x07\x07\x07\x07\
+    \x07\x07\x07\x07\x07\x07\x07\x07\x07\x07\x07\x07\x07\x07\x07\x07\
+    \x07\x07\x07\x07\x07\x07\x07\x07\x07\x07\x07\x07\x07\x07\x07\x07\
+    \x07\x07\x07\x07\x07\x07\x07\x07\x07\x07\x07\x07\x05\x07\x07\x07\
+    \x07\x07\x07\x07\x07\x07\x07\x07\x07\x07\x07\x07\x07\x07\x07\x07\
+    \x07\x07\x07\x07\x07\x07\x07\x07\x07\x07\x07\x07\x07\x07\x07\x07\
+    \x07\x07\x07\x07\x07\x07\x07\x07\x07\x07\x07\x07\x07\x07\x07\x07\
+    \x07\x07\x07\x07\x07\x07\x07\x07\x07\x07\x07\x07\x07\x07\x07\x07\
+    \x07\x07\x07\x07\x07\x07\x07\x07\x07\x07\x07\x07\x07\x07\x07\x07\
+    \x07\x07\x07\x07\x07\x07\x07\x07\x07\x07\x07\x07\x07\x07\x07\x07\
+    \x07\x07\x07\x07\x07\x07\x07\x07\x07\x07\x07\x07\x07\x07\x07\x07\
+    \x07\x07\x07\x07\x07\x07\x07\x07\x07\x07\x07\x07\x07\x07\x07\x07\
+    \xc6\x41\x41\x41\x41\x41\x41\x41\
+    \xbb\x40\x40\x40\x40\x40\x40\x40\
+    \x00\x00\x00\x00\xb1\x00\x00\x00\
+    \xb9\x3e\x3e\x3e\x3e\x3e\x3e\x3e\
+    \xb7\x3c\x3c\x3c\x3c\x3c\x3c\x3c\
+    \xb8\xc3\x3d\x3d\x3d\x3d\x3d\x3d\
+    \x54\x54\xc9\x54\x54\x54\x54\x54\
+    \xba\x3f\x3f\x3f\x3f\x3f\x01\x3f\
+    \xcb\x52\x52\xd3\x52\x52\x52\x52\
+    \xc7\x57\x57\x57\x57\x57\x57\x57\
+    \xc5\xc4\x4b\x4b\x4b\x4b\x4b\x4b\
+    \xc8\x58\x58\x58\x58\x58\x58\x58\
+    \x34\xb3\x34\x34\x34\xb2\x34\x34";
+
 // The table of signs: a caller makes it once and lends it.
-pub fn sign_table() -> [u8; 451]
+pub fn sign_table() -> [u8; 360]
     ensures { λ r. ⌜ r ≡ signTable ⌝ }
 {
     SIGNS
 }
 
-// The rows of each first byte: a caller makes it once and lends it.
+// The row of each first byte: a caller makes it once and lends it.
 pub fn sign_index() -> [u8; 256]
     ensures { λ r. ⌜ r ≡ signIndexTable ⌝ }
 {
     SIGN_ROWS
 }
 
-// The first sign, longest first, that `s` begins with. A byte that begins one sign only is that sign.
-pub fn sign_at(index: &[u8; 256], table: &[u8; 451], s: &[u8]) -> Spelled
+// The column of the byte at `at`; that of another byte at the line's end.
+fn column_at(table: &[u8; 360], line: &[u8], at: usize) -> usize
+    requires { ⌜ now table ≡ signTable ⌝ }
+    ensures { λ r. ⌜ r ≡ columnOf (drop at (now (line .entry))) ⌝ }
+{
+    if line.len() <= at {
+        return 7;
+    }
+    table[line[at] as usize] as usize
+}
+
+// The code of a sign of two bytes, of which the second stands at `at`: before a `=` three of them are longer.
+fn longer_sign(line: &[u8], at: usize, code: u32) -> u32
+    requires { ⌜ at ≤ length (now line) ⌝ }
+    ensures { λ r. ⌜ r ≡ longerBy (begins (ascii "=") (drop 1 (drop at (now (line .entry))))) code ⌝ }
+{
+    if line.len() - at < 2 {
+        return code;
+    }
+    if line[at + 1] != 61 {
+        return code;
+    }
+    match code {
+        201 => 330,
+        177 => 309,
+        178 => 310,
+        _ => code,
+    }
+}
+
+// The code of the sign at `at`: its kind, and 128 more for each byte beyond the first; 1 for a comment, 0 for a lone `&`. A byte that no
+// longer sign begins with is looked up by itself; the others by row and column.
+pub fn sign_code(index: &[u8; 256], table: &[u8; 360], line: &[u8], at: usize) -> u32
     requires { ⌜ now index ≡ signIndexTable ⌝ }
     requires { ⌜ now table ≡ signTable ⌝ }
-    ensures { λ r. ⌜ r ≡ spelledOf (findIn signs (now (s .entry))) ⌝ }
+    requires { ⌜ at < length (now line) ⌝ }
+    ensures { λ r. ⌜ r ≡ signCode (drop at (now (line .entry))) ⌝ }
 {
-    if s.len() == 0 {
-        return Spelled::Unspelled;
+    let row = index[line[at] as usize] as usize;
+    if row < 128 {
+        return row as u32;
     }
-    let b = s[0];
-    let rows = index[b as usize] as usize;
-    let from = rows / 5;
-    if rows % 5 == 1 {
-        return Spelled::Kind(table[11 * from + 1] as u32, 1);
+    let code = table[128 + row + column_at(table, line, at + 1)] as u32;
+    if code < 128 {
+        return code;
     }
-    let to = from + rows % 5;
-    find_spelling(table, from, to, s)
+    longer_sign(line, at + 1, code)
 }

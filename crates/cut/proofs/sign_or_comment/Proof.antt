@@ -1,36 +1,58 @@
--- `cut::sign_or_comment` meets its contract.
+-- `cut::sign_or_comment` meets its contract, by the code of a sign.
 -- Assumes nothing.
+use Prim.Native.Nat.{ℕ, _+_, _/_, _%_, _<_}
 use mathlib.Core.Path.{_≡_, refl, sym, ap, _∙_}
-use mathlib.Core.Bool.{Bool, true, false}
 use native.Mathlib.Omega.{arith}
-use lib.ListN.{length, drop}
-use Rattle.rules.specs.Lists.{begins, ascii, if_then_else_}
-use Rattle.rules.specs.Cut.{Cut, comment}
-use Rattle.cut.specs.Cuts.{anySign}
+use native.Mathlib.Numerals.{add-one}
+use lib.ListN.{drop}
+use borrow.Author.Tests.{ne-eqb}
 use borrow.Author.Needs.{needs}
+use Rattle.rules.specs.Failure.{failure, expectedAnd}
+use Rattle.rules.specs.Cut.{comment, token, fails}
+use Rattle.cut.specs.Cuts.{commentOr}
+use Rattle.spelling.specs.Signs.{codeCut}
+use Rattle.spelling.proofs.SignLaws.{code-cut}
 use Rattle.cut.proofs.sign_or_comment.Statement.{statement}
 use Rattle.cut.proofs.sign_or_comment.Tie as tie
 
-slice-aggregate-begins-at : tie.Need-slice-aggregate-begins-at
-slice-aggregate-begins-at c = search needs
+-- what a code cuts
+cut-token : (c : ℕ) → 1 < c → token (c % 128) (c / 128 + 1) ≡ codeCut c
+unfolding codeCut
+cut-token c h = sym (rw (ne-eqb c 0 (λ e. omega arith), ne-eqb c 1 (λ e. omega arith), sym (add-one (c / 128))) refl)
 
-begins-at-requires : tie.Need-begins-at-requires
-begins-at-requires c κs = search needs
+cut-comment : comment ≡ codeCut 1
+unfolding codeCut
+cut-comment = refl
+
+cut-none : fails (failure expectedAnd 0 0 1) ≡ codeCut 0
+unfolding codeCut
+cut-none = refl
+
+-- the code is that of the line's rest
+module _ (c : tie.After-sign-code) where
+  by-code : codeCut (c .sign-code .result) ≡ commentOr (drop (c .before .before .args .at) (c .before .before .args .line .now))
+  by-code = ap codeCut (c .sign-code .ensures) ∙ sym (code-cut (drop (c .before .before .args .at) (c .before .before .args .line .now)))
+
+sign-code-requires : tie.Need-sign-code-requires
+sign-code-requires c κs = search needs
+
+cast-size : tie.Need-cast-size
+cast-size c = search needs
+
+add-size : tie.Need-add-size
+add-size c = search needs
 
 returns : tie.Need-returns
-returns c =
-    let a = c .before .before .before .before .args in
-    ap (λ (b : Bool). if b then comment else anySign (drop (a .at) (a .line .now))) (sym (c .if1 .taken) ∙ c .before .begins-at .ensures)
-
-sign-cut-requires : tie.Need-sign-cut-requires
-sign-cut-requires c κs = search needs
+returns c = cut-token (c .before .sign-code .result) (c .if1 .taken) ∙ by-code (c .before)
 
 returns-2 : tie.Need-returns-2
-returns-2 c =
-    let a = c .before .before .before .before .before .args in
-    c .sign-cut .ensures ∙ ap (λ (b : Bool). if b then comment else anySign (drop (a .at) (a .line .now))) (sym (c .before .if1 .left) ∙ c .before .before .begins-at .ensures)
+returns-2 c = cut-comment ∙ ap codeCut (sym (c .if2 .taken)) ∙ by-code (c .before .before)
+
+returns-3 : tie.Need-returns-3
+returns-3 c =
+    let z : 0 ≡ c .before .before .sign-code .result = omega (arith, c .before .if1 .left, c .if2 .left) in
+    cut-none ∙ ap codeCut z ∙ by-code (c .before .before)
 
 pub sign-or-comment-spec : {M : Type 1} → statement M
 sign-or-comment-spec =
-    tie.close
-    (tie.spec slice-aggregate-begins-at begins-at-requires returns sign-cut-requires returns-2)
+    tie.close (tie.spec sign-code-requires cast-size add-size returns returns-2 returns-3)

@@ -2,12 +2,12 @@
 -- Assumes nothing.
 use mathlib.Core.Path.{refl}
 use Rattle.rules.specs.Tables.{tableRules}
-use Rattle.spelling.specs.Rows.{rowRules}
+use Rattle.spelling.specs.Signs.{codeRules}
 use Rattle.spelling.proofs.sign_index.Statement.{statement}
 use Rattle.spelling.proofs.sign_index.Tie as tie
 
 returns : tie.Need-returns
-unfolding rowRules tableRules
+unfolding codeRules tableRules
 returns c = refl
 
 pub sign-index-spec : {M : Type 1} → statement M
