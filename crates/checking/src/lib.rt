@@ -116,7 +116,7 @@ fn leading_size(lead: line::Lead) -> usize
 // The records from k on begin with the tokens of a line.
 fn same_cuts(
     class: &[u8; 256],
-    reach: &[u8; 768],
+    reach: &[u8; 1024],
     index: &[u8; 256],
     signs: &[u8; 360],
     keywords: &[u8; 539],
@@ -176,7 +176,7 @@ fn same_cuts(
 // A line whose levels are known: what stands at its start, its cuts, and the Newline.
 fn tokens_agree(
     class: &[u8; 256],
-    reach: &[u8; 768],
+    reach: &[u8; 1024],
     index: &[u8; 256],
     signs: &[u8; 360],
     keywords: &[u8; 539],
@@ -235,7 +235,7 @@ fn tokens_agree(
 // One line from the state before it, held against the records from k on; `widths` holds the open levels and then those after the line.
 fn line_agrees(
     class: &[u8; 256],
-    reach: &[u8; 768],
+    reach: &[u8; 1024],
     index: &[u8; 256],
     signs: &[u8; 360],
     keywords: &[u8; 539],
@@ -258,7 +258,8 @@ fn line_agrees(
     ensures { λ r. ⌜ LevelsWithin r ⌝ }
 {
     let depth = s.depth;
-    match line::levels_of(line, s, widths) {
+    let spaces = spelling::run_end(reach, line, 0, 3);
+    match line::levels_of(line, spaces, s, widths) {
         line::Compared::Levels(lead) => tokens_agree(
             class,
             reach,
@@ -345,7 +346,7 @@ fn end_agrees(
 // All lines, held against the records of a page with `count` lines and `total` tokens.
 fn lines_agree(
     class: &[u8; 256],
-    reach: &[u8; 768],
+    reach: &[u8; 1024],
     index: &[u8; 256],
     signs: &[u8; 360],
     keywords: &[u8; 539],

@@ -1,22 +1,25 @@
 -- Words at an index of a line, and the cuts that hold no word: those are the same with the kinds of words or without.
 -- Assumes nothing.
-use Prim.Native.Nat.{ℕ, suc, _+_, _-_, _≤_, _<_}
+use Prim.Native.Nat.{ℕ, suc, _+_, _-_, _/_, _%_, _≤_, _<_}
 use Prim.Native.Char.{code}
 use mathlib.Core.Path.{_≡_, refl, sym, ap, _∙_}
 use mathlib.Core.Bool.{Bool, true, false}
 use mathlib.Core.List.{List, [], _∷_}
 use native.Mathlib.Omega.{arith}
+use native.Mathlib.Numerals.{add-one}
 use lib.Dec.{ltb, leb, eqb}
 use lib.ListN.{length, getD, drop, take}
 use lib.Seq.{drop-cons}
-use borrow.Author.Tests.{leb-true, le-ltb}
+use borrow.Author.Tests.{leb-true, le-ltb, ne-eqb}
 use Rattle.rules.specs.Lists.{if_then_else_, within, ascii, elem, every, begins, run, same, trimEnd}
-use Rattle.rules.specs.Kinds.{Ident}
-use Rattle.rules.specs.Tables.{Spelling, isCR, isHexDigit, blankClass, letterClass, classOf, keywords, signs, wordKind, tableRules}
-use Rattle.rules.specs.Cut.{Cut, blank, token, inWord, wordCut, letterCut, numberCut, stringEnd, stringCut, closingCut, lowDigitCut, highDigitCut, escapeCut, contentCut, byteCut, signCut, cutBy, cut}
+use Rattle.rules.specs.Kinds.{Ident, Num}
+use Rattle.rules.specs.Tables.{Spelling, isCR, isHexDigit, blankClass, letterClass, digitClass, signClass, classOf, keywords, signs, wordKind, tableRules}
+use Rattle.rules.specs.Cut.{Cut, blank, token, inWord, wordCut, letterCut, Number, scanNumber, numberCut, stringEnd, stringCut, closingCut, lowDigitCut, highDigitCut, escapeCut, contentCut, byteCut, signCut, cutBy, cut}
 use Rattle.rules.proofs.ListLaws.{if-by, and-true}
 use Rattle.spelling.specs.Bytes.{reaches}
+use Rattle.spelling.specs.Signs.{signCode, codeCut}
 use Rattle.spelling.proofs.ReachLaws.{run-word}
+use Rattle.spelling.proofs.SignLaws.{code-cut}
 use Rattle.cut.specs.Cuts.{plainKind, plainCut, kindAsked, cutNamed, commentOr}
 
 -- Words.
@@ -122,6 +125,11 @@ pub named-plain : (w : Bool) (c : Cut) → plainCut c ≡ c → c ≡ cutNamed w
 named-plain true c e = refl
 named-plain false c e = sym e
 
+-- what a sign's code cuts
+pub code-token : (c : ℕ) → 1 < c → token (c % 128) (c / 128 + 1) ≡ codeCut c
+unfolding codeCut
+code-token c h = sym (rw (ne-eqb c 0 (λ e. omega arith), ne-eqb c 1 (λ e. omega arith), sym (add-one (c / 128))) refl)
+
 -- A cut by the class of its first byte.
 
 module _ (w : Bool) (line : List ℕ) (at : ℕ) (h : at < length line) where
@@ -142,6 +150,15 @@ module _ (w : Bool) (line : List ℕ) (at : ℕ) (h : at < length line) where
   word-token e b end is =
       let letter : cutBy letterClass (drop at line) ≡ wordCut (drop at line) = rw b in
       sym (in-class letterClass e) ∙ ap (cutNamed w) letter ∙ sym (word-is line at end is w)
+
+  pub number-token : classOf (getD line at 0) ≡ digitClass → (n : Number) → n ≡ scanNumber (drop at line) → cutNamed w (cut (drop at line)) ≡ token Num (n .digits + n .suffix)
+  unfolding cutBy numberCut
+  number-token e n is = sym (plain-class digitClass e (number-plain (drop at line))) ∙ ap (λ (x : Number). token Num (x .digits + x .suffix)) (sym is)
+
+  pub sign-token : classOf (getD line at 0) ≡ signClass → (c : ℕ) → c ≡ signCode (drop at line) → 1 < c → cutNamed w (cut (drop at line)) ≡ token (c % 128) (c / 128 + 1)
+  unfolding cutBy
+  sign-token e c is h =
+      sym (plain-class signClass e (sign-or-plain (drop at line))) ∙ code-cut (drop at line) ∙ ap codeCut (sym is) ∙ sym (code-token c h)
 
 pub blank-cut : (line : List ℕ) (at : ℕ) → at < length line → classOf (getD line at 0) ≡ blankClass → cut (drop at line) ≡ blank
 unfolding cutBy

@@ -364,7 +364,7 @@ fn is_digit(b: u8) -> bool
 }
 
 // Where a fraction at `at` ends: a point and a digit, with all digits and `_` that follow; `at` where there is none.
-fn fraction_end(reach: &[u8; 768], line: &[u8], at: usize) -> usize
+fn fraction_end(reach: &[u8; 1024], line: &[u8], at: usize) -> usize
     requires { ⌜ now reach ≡ reachTable ⌝ }
     requires { ⌜ at ≤ length (now line) ⌝ }
     ensures { λ r. ⌜ r ≡ at + fractionSize (drop at (now (line .entry))) ⌝ }
@@ -382,7 +382,7 @@ fn fraction_end(reach: &[u8; 768], line: &[u8], at: usize) -> usize
 }
 
 // Where a number's digits and fraction end.
-fn digits_end(reach: &[u8; 768], line: &[u8], at: usize) -> usize
+fn digits_end(reach: &[u8; 1024], line: &[u8], at: usize) -> usize
     requires { ⌜ now reach ≡ reachTable ⌝ }
     requires { ⌜ at ≤ length (now line) ⌝ }
     ensures { λ r. ⌜ r ≡ at + digitsSize (drop at (now (line .entry))) ⌝ }
@@ -418,7 +418,7 @@ fn suffix_size(line: &[u8], at: usize) -> usize
 }
 
 // The number at `at`.
-pub fn scan_number(reach: &[u8; 768], line: &[u8], at: usize) -> Number
+pub fn scan_number(reach: &[u8; 1024], line: &[u8], at: usize) -> Number
     requires { ⌜ now reach ≡ reachTable ⌝ }
     requires { ⌜ at ≤ length (now line) ⌝ }
     ensures { λ r. ⌜ numberOf r ≡ scanNumber (drop at (now (line .entry))) ⌝ }
@@ -432,7 +432,7 @@ pub fn scan_number(reach: &[u8; 768], line: &[u8], at: usize) -> Number
 }
 
 // A number, with its suffix.
-fn number_cut(reach: &[u8; 768], line: &[u8], at: usize) -> Cut
+fn number_cut(reach: &[u8; 1024], line: &[u8], at: usize) -> Cut
     requires { ⌜ now reach ≡ reachTable ⌝ }
     requires { ⌜ at ≤ length (now line) ⌝ }
     ensures { λ r. ⌜ cutOf r ≡ numberCut (drop at (now (line .entry))) ⌝ }
@@ -454,7 +454,7 @@ pub fn kind_of_word(keywords: &[u8; 539], line: &[u8], at: usize, end: usize, na
 }
 
 // A word: letters, digits, `_`.
-fn word_cut(reach: &[u8; 768], keywords: &[u8; 539], line: &[u8], at: usize, named: bool) -> Cut
+fn word_cut(reach: &[u8; 1024], keywords: &[u8; 539], line: &[u8], at: usize, named: bool) -> Cut
     requires { ⌜ now reach ≡ reachTable ⌝ }
     requires { ⌜ now keywords ≡ keywordTable ⌝ }
     requires { ⌜ at ≤ length (now line) ⌝ }
@@ -476,7 +476,7 @@ pub fn begins_literal(line: &[u8], at: usize) -> bool
 }
 
 // What a letter begins: a byte literal or a word.
-fn letter_cut(reach: &[u8; 768], keywords: &[u8; 539], line: &[u8], at: usize, named: bool) -> Cut
+fn letter_cut(reach: &[u8; 1024], keywords: &[u8; 539], line: &[u8], at: usize, named: bool) -> Cut
     requires { ⌜ now reach ≡ reachTable ⌝ }
     requires { ⌜ now keywords ≡ keywordTable ⌝ }
     requires { ⌜ at < length (now line) ⌝ }
@@ -514,7 +514,7 @@ fn sign_or_comment(index: &[u8; 256], signs: &[u8; 360], line: &[u8], at: usize)
 // The cut at `at`, by the class of the byte there. The tables are lent.
 pub fn cut_by_class(
     class: &[u8; 256],
-    reach: &[u8; 768],
+    reach: &[u8; 1024],
     index: &[u8; 256],
     signs: &[u8; 360],
     keywords: &[u8; 539],
@@ -538,34 +538,5 @@ pub fn cut_by_class(
         4 => string_cut(line, at),
         5 => sign_or_comment(index, signs, line, at),
         _ => finding_at(line, at, 0, 1),
-    }
-}
-
-// The same for a byte whose class is known. The frequent classes stand apart, so that the loop over a line has them in its own code; the
-// others are called for.
-pub fn next_token(
-    c: u8,
-    class: &[u8; 256],
-    reach: &[u8; 768],
-    index: &[u8; 256],
-    signs: &[u8; 360],
-    keywords: &[u8; 539],
-    line: &[u8],
-    at: usize,
-    named: bool,
-) -> Cut
-    requires { ⌜ now class ≡ classTable ⌝ }
-    requires { ⌜ now reach ≡ reachTable ⌝ }
-    requires { ⌜ now index ≡ signIndexTable ⌝ }
-    requires { ⌜ now signs ≡ signTable ⌝ }
-    requires { ⌜ now keywords ≡ keywordTable ⌝ }
-    requires { ⌜ (at < length (now line)) × (c ≡ classOf (getD (now line) at 0)) ⌝ }
-    ensures { λ r. ⌜ cutOf r ≡ cutNamed named (cut (drop at (now (line .entry)))) ⌝ }
-{
-    match c {
-        1 => Cut::Comment,
-        3 => number_cut(reach, line, at),
-        5 => sign_or_comment(index, signs, line, at),
-        _ => cut_by_class(class, reach, index, signs, keywords, line, at, named),
     }
 }

@@ -1,4 +1,4 @@
--- The indent width at an index, one byte at a time; the last of some widths; blank lines.
+-- The indent width at an index, one byte at a time; the last of some widths; the end of a line or a comment at an index.
 -- Assumes nothing.
 use Prim.Native.Nat.{ℕ, zero, suc, _+_, _-_, _≤_, _<_}
 use mathlib.Core.Path.{_≡_, refl, sym, ap, _∙_}
@@ -13,7 +13,8 @@ use borrow.Author.Tests.{eq-eqb, ne-eqb}
 use Rattle.rules.specs.Lists.{if_then_else_, ascii, begins, run, trimEnd, lastD}
 use Rattle.rules.specs.Tables.{isBlank}
 use Rattle.rules.specs.Line.{isSpace, isTab, indentWidth, indentSize, afterBlanks, isBlankLine}
-use Rattle.rules.proofs.ListLaws.{run-le, trim-pass, trim-stop}
+use Rattle.rules.proofs.ListLaws.{trim-pass, trim-stop}
+use Rattle.line.specs.States.{endsOrComment}
 
 -- a space or a tab
 abbrev pub indents : ℕ → Bool
@@ -67,26 +68,24 @@ module _ (f : ℕ → Bool) (ws : List ℕ) (n : ℕ) (some : 0 < n) (inside : n
   pub pop-stop : f (getD ws (n - 1) 0) ≡ false → trimEnd f (take n ws) ≡ take n ws
   pop-stop e = rw last at (trim-stop f ws (n - 1) (omega arith) e)
 
--- A blank line, by what stands after its blanks.
-module _ (l : List ℕ) (e : ℕ) (is : e ≡ run isBlank l) where
-  pub blanks-le : e ≤ length l
-  blanks-le = omega (arith, run-le isBlank l)
+-- What stands at an index: the line's end, a `#`, or perhaps `//`.
+module _ (l : List ℕ) (i : ℕ) where
+  pub ends-empty : i ≡ length l → endsOrComment (drop i l) ≡ true
+  unfolding endsOrComment
+  ends-empty h = rw (drop-of-length-le l {i = i} (omega arith))
 
-  rest : afterBlanks l ≡ drop e l
-  unfolding afterBlanks
-  rest = ap (λ (n : ℕ). drop n l) (sym is)
+  module _ (h : i < length l) where
+    some-rest : eqb (length (drop i l)) 0 ≡ false
+    some-rest = ne-eqb (length (drop i l)) 0 (λ z. omega (arith, length-drop i l))
 
-  pub blank-empty : e ≡ length l → isBlankLine l ≡ true
-  unfolding isBlankLine
-  blank-empty h = rw (rest, drop-of-length-le l {i = e} (omega arith))
+    pub ends-hash : getD l i 0 ≡ 35 → endsOrComment (drop i l) ≡ true
+    unfolding endsOrComment begins
+    ends-hash e = rw (some-rest, drop-cons l i 0 h, eq-eqb 35 (getD l i 0) (sym e))
 
-  some-rest : (e ≡ length l → ⊥) → eqb (length (drop e l)) 0 ≡ false
-  some-rest h = ne-eqb (length (drop e l)) 0 (λ z. h (omega (arith, length-drop e l, blanks-le)))
+    pub ends-slashes : (getD l i 0 ≡ 35 → ⊥) → endsOrComment (drop i l) ≡ begins (ascii "//") (drop i l)
+    unfolding endsOrComment begins
+    ends-slashes n = rw (some-rest, drop-cons l i 0 h, ne-eqb 35 (getD l i 0) (λ z. n (sym z)))
 
-  pub blank-hash : (e ≡ length l → ⊥) → begins (ascii "#") (drop e l) ≡ true → isBlankLine l ≡ true
-  unfolding isBlankLine
-  blank-hash n h = rw (rest, some-rest n, h)
-
-  pub blank-slashes : (e ≡ length l → ⊥) → begins (ascii "#") (drop e l) ≡ false → isBlankLine l ≡ begins (ascii "//") (drop e l)
-  unfolding isBlankLine
-  blank-slashes n h = rw (rest, some-rest n, h)
+pub blank-line : (l : List ℕ) → isBlankLine l ≡ endsOrComment (drop (run isBlank l) l)
+unfolding isBlankLine afterBlanks endsOrComment
+blank-line l = refl

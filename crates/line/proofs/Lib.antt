@@ -1,4 +1,5 @@
 pub mod Indents
+pub mod Spaces
 pub mod Levels
 pub mod Dedents
 pub mod Progress

@@ -8,11 +8,11 @@ use native.Mathlib.Omega.{arith}
 use native.Mathlib.Numerals.{add-one}
 use lib.Dec.{eqb}
 use lib.ListN.{length, drop, length-append, length-drop}
-use Rattle.rules.specs.Lists.{if_then_else_}
+use Rattle.rules.specs.Lists.{if_then_else_, run}
 use Rattle.rules.specs.Kinds.{Ident, Implies, LParen, RParen}
 use Rattle.rules.specs.Failure.{Failure}
 use Rattle.rules.specs.Cut.{blank, comment, token, fails, cut}
-use Rattle.rules.specs.Line.{Token, tokenAt, Cuts, cuts, stops, withToken, movedBy, cutsFrom, depthAfter, arrowAfter}
+use Rattle.rules.specs.Line.{Token, tokenAt, Cuts, cuts, stops, withToken, movedBy, cutsFrom, isSpace, depthAfter, arrowAfter}
 use Rattle.rules.specs.Records.{tokenWords}
 use Rattle.rules.proofs.CutLaws.{TokenOk, cut-ok, cuts-end, cuts-blank, cuts-comment, cuts-token, cuts-fails}
 use Rattle.rules.proofs.RecordLaws.{length-tokenWords}
@@ -20,9 +20,13 @@ use Rattle.cut.specs.Cuts.{plainKind, cutNamed}
 use Rattle.cut.proofs.Plain.{Named, named-token, plain-eqb}
 use Rattle.rules.proofs.ListLaws.{if-by}
 use Rattle.line.specs.States.{depthBy}
-use Rattle.line.specs.LineCuts.{failureIn, lineCutsOf, tokensOf, RoomFor}
+use Rattle.line.specs.LineCuts.{failureIn, lineCutsOf, tokensOf, RoomFor, cursorAt, blankPast, tokenPast, wordsAt}
+use Rattle.line.specs.declared.Place.{Place}
+use Rattle.line.specs.declared.Cursor.{Cursor}
+use Rattle.line.specs.declared.LineCuts.{LineCuts}
 use Rattle.line.specs.declared.LineCuts.the-variants.{Ends, Stops}
 use Rattle.laws.specs.Puts.{putIf}
+use Rattle.line.proofs.Spaces.{spaces-le, cuts-behind}
 use Rattle.laws.proofs.Puts.{length-putIf, putIf-append, putIf-none, putIf-by}
 
 -- tokens in front of cuts
@@ -57,125 +61,6 @@ unfolding tokenWords
 words-snoc p l [] t = refl
 words-snoc p l (x ∷ ts) t = rw (words-snoc p l ts t)
 
--- the line, the depth before it, the place of its tokens, and whether they are written
-module _ (l : List ℕ) (d₀ p number k : ℕ) (write : Bool) (tokens₀ : List ℕ) where
-  pub record Progress (tokens : List ℕ) (at n depth : ℕ) (arrow : Bool) : Type 0 where
-    pub done : List Token
-    pub inside : at ≤ length l
-    pub rest : cutsFrom 0 0 l ≡ withTokens done (cutsFrom at 0 (drop at l))
-    pub count : length done ≡ n
-    pub few : n ≤ at
-    pub depth-is : depthAfter d₀ done ≡ depth
-    pub arrow-is : arrowAfter false done ≡ arrow
-    pub words : tokens ≡ putIf write tokens₀ (5 * k) (tokenWords p number done)
-
-  pub start : Progress tokens₀ 0 0 d₀ false
-  unfolding depthAfter arrowAfter tokenWords
-  start =
-      record {
-        done = [];
-        inside = omega arith;
-        rest = sym (withTokens-none (cutsFrom 0 0 l));
-        count = refl;
-        few = omega arith;
-        depth-is = refl;
-        arrow-is = refl;
-        words = sym (putIf-none write tokens₀ (5 * k));
-      }
-
-module _ {l : List ℕ} {d₀ p number k : ℕ} {write : Bool} {tokens₀ tokens : List ℕ} {at n depth : ℕ} {arrow : Bool} (v : Progress l d₀ p number k write tokens₀ tokens at n depth arrow) where
-  pub same-tokens : length tokens ≡ length tokens₀
-  same-tokens = ap length (v .words) ∙ length-putIf write tokens₀ (5 * k) (tokenWords p number (v .done))
-
-  pub at-end : length l ≤ at → cutsFrom 0 0 l ≡ cuts (v .done)
-  unfolding withTokens
-  at-end h = v .rest ∙ ap (withTokens (v .done)) (cuts-end at l h) ∙ ap cuts (append-nil (v .done))
-
-  module _ (h : at < length l) where
-    pub at-comment : cut (drop at l) ≡ comment → cutsFrom 0 0 l ≡ cuts (v .done)
-    unfolding withTokens
-    at-comment e = v .rest ∙ ap (withTokens (v .done)) (cuts-comment at l h e) ∙ ap cuts (append-nil (v .done))
-
-    pub at-failure : (f : Failure) → cut (drop at l) ≡ fails f → cutsFrom 0 0 l ≡ stops (movedBy at f)
-    unfolding withTokens
-    at-failure f e = v .rest ∙ ap (withTokens (v .done)) (cuts-fails at l h f e)
-
-    pub past-blank : cut (drop at l) ≡ blank → Progress l d₀ p number k write tokens₀ tokens (at + 1) n depth arrow
-    past-blank e =
-        record {
-          done = v .done;
-          inside = omega arith;
-          rest = v .rest ∙ ap (withTokens (v .done)) (cuts-blank at l h e);
-          count = v .count;
-          few = omega (arith, v .few);
-          depth-is = v .depth-is;
-          arrow-is = v .arrow-is;
-          words = v .words;
-        }
-
-    -- the kind that the pass gives serves the depth and the arrow
-    pub past-token : (real kind size : ℕ) → cut (drop at l) ≡ token real size → Named write real kind → (tokens′ : List ℕ)
-        → tokens′ ≡ putIf write tokens (5 * (k + n)) (kind ∷ (p + at) ∷ size ∷ number ∷ (at + 1) ∷ [])
-        → (depth′ : ℕ) → depth′ ≡ depthBy depth kind → Progress l d₀ p number k write tokens₀ tokens′ (at + size) (n + 1) depth′ (eqb kind Implies)
-    unfolding depthBy
-    past-token real kind size e same tokens′ written depth′ left =
-        let ok : TokenOk (drop at l) real size = rw e at (cut-ok (drop at l)) in
-        let t : Token = tokenAt real at size in
-        let paren : eqb real LParen ≡ eqb kind LParen = plain-eqb LParen real kind (omega arith) (same .plain) in
-        let close : eqb real RParen ≡ eqb kind RParen = plain-eqb RParen real kind (omega arith) (same .plain) in
-        let arr : eqb real Implies ≡ eqb kind Implies = plain-eqb Implies real kind (omega arith) (same .plain) in
-        let before : List ℕ = tokenWords p number (v .done) in
-        let place : 5 * (k + n) ≡ 5 * k + length before = omega (arith, length-tokenWords p number (v .done), v .count) in
-        record {
-          done = v .done ++ (t ∷ []);
-          inside = omega (arith, ok .in-line, length-drop at l);
-          rest = v .rest ∙ ap (withTokens (v .done)) (cuts-token at l h real size e) ∙ withTokens-more (v .done) t (cutsFrom (at + size) 0 (drop (at + size) l));
-          count = omega (arith, length-append (v .done) (t ∷ []), v .count);
-          few = omega (arith, v .few, ok .some-bytes);
-          depth-is = depth-snoc d₀ (v .done) t ∙ rw (v .depth-is, paren, close) (sym left);
-          arrow-is = arrow-snoc false (v .done) t ∙ arr;
-          words = written
-              ∙ ap (λ (x : List ℕ). putIf write x (5 * (k + n)) (kind ∷ (p + at) ∷ size ∷ number ∷ (at + 1) ∷ [])) (v .words)
-              ∙ putIf-append write tokens₀ (5 * k) (5 * (k + n)) before (kind ∷ (p + at) ∷ size ∷ number ∷ (at + 1) ∷ []) place
-              ∙ putIf-by write tokens₀ (5 * k) _ (tokenWords p number (v .done ++ (t ∷ [])))
-              (λ w. ap (λ (x : ℕ). before ++ (x ∷ (p + at) ∷ size ∷ number ∷ (at + 1) ∷ [])) (sym (same .real w))
-              ∙ ap (λ (x : ℕ). before ++ (real ∷ (p + at) ∷ size ∷ number ∷ x ∷ [])) (add-one at) ∙ sym (words-snoc p number (v .done) t));
-        }
-
-    -- a token more has room where all tokens of the line have
-    pub room-for : (real size : ℕ) → cut (drop at l) ≡ token real size → (ts : List Token) → cutsFrom 0 0 l ≡ cuts ts → n < length ts
-    unfolding withTokens withToken
-    room-for real size e ts all =
-        go (cutsFrom (at + size) 0 (drop (at + size) l)) (v .rest ∙ ap (withTokens (v .done)) (cuts-token at l h real size e))
-      where
-        go : (x : Cuts) → cutsFrom 0 0 l ≡ withTokens (v .done) (withToken (tokenAt real at size) x) → n < length ts
-        go (cuts us) q =
-            let same : ts ≡ v .done ++ (tokenAt real at size ∷ us) = cc in
-            omega (arith, ap length same, length-append (v .done) (tokenAt real at size ∷ us), v .count)
-        go (stops f) q = let z : _≡_ {A = ℕ} 0 1 = cc in absurd (omega arith)
-
-  -- The line is done: all that was cut stands there, or the pass does not write.
-
-  pub ended : cutsFrom 0 0 l ≡ cuts (v .done)
-      → (Ends n depth arrow ≡ lineCutsOf d₀ (cutsFrom 0 0 l)) × (tokens ≡ putIf write tokens₀ (5 * k) (tokenWords p number (tokensOf (cutsFrom 0 0 l))))
-  ended e = (
-    (λ i. Ends (sym (v .count) i) (sym (v .depth-is) i) (sym (v .arrow-is) i)) ∙ ap (lineCutsOf d₀) (sym e),
-    v .words ∙ ap (λ (x : Cuts). putIf write tokens₀ (5 * k) (tokenWords p number (tokensOf x))) (sym e),
-  )
-
-  pub stopped : (f : Failure) (m : ℕ) → cutsFrom 0 0 l ≡ stops f → (write ≡ true → RoomFor (cutsFrom 0 0 l) k m)
-      → (Stops (failureIn f) ≡ lineCutsOf d₀ (cutsFrom 0 0 l)) × (tokens ≡ putIf write tokens₀ (5 * k) (tokenWords p number (tokensOf (cutsFrom 0 0 l))))
-  stopped f m e room = (
-    ap (lineCutsOf d₀) (sym e),
-    v .words ∙ putIf-by write tokens₀ (5 * k) (tokenWords p number (v .done)) (tokenWords p number (tokensOf (cutsFrom 0 0 l)))
-        (λ w. absurd (subst (λ (x : Cuts). RoomFor x k m) e (room w))),
-  )
-
--- room for all tokens of a line
-pub all-room : (x : Cuts) (k m : ℕ) → RoomFor x k m → (ts : List Token) × (x ≡ cuts ts) × (5 * (k + length ts) ≤ m)
-all-room (cuts ts) k m h = (ts, refl, h)
-all-room (stops f) k m h = absurd h
-
 pub depth-by-le : (d kind : ℕ) → depthBy d kind ≤ d + 1
 unfolding depthBy
 depth-by-le d kind =
@@ -205,23 +90,145 @@ failure-at l at f h e =
     let ok : f .at + f .size ≤ length (drop at l) = rw e at (cut-ok (drop at l)) in
     omega (arith, ok, length-drop at l)
 
--- a kind that is no sign's leaves the depth, and is no arrow
-word-keeps : (depth kind : ℕ) → plainKind kind ≡ Ident → (depth ≡ depthBy depth kind) × (eqb kind Implies ≡ false)
-unfolding depthBy plainKind
-word-keeps depth kind e =
-    (rw (plain-eqb LParen kind Ident (omega arith) e, plain-eqb RParen kind Ident (omega arith) e), plain-eqb Implies kind Ident (omega arith) e)
+-- room for all tokens of a line
+pub all-room : (x : Cuts) (k m : ℕ) → RoomFor x k m → (ts : List Token) × (x ≡ cuts ts) × (5 * (k + length ts) ≤ m)
+all-room (cuts ts) k m h = (ts, refl, h)
+all-room (stops f) k m h = absurd h
 
--- a word that ends at `end`
-pub past-word : {l : List ℕ} {d₀ p number k : ℕ} {write : Bool} {tokens₀ tokens : List ℕ} {at n depth : ℕ} {arrow : Bool}
-    → Progress l d₀ p number k write tokens₀ tokens at n depth arrow → at < length l → (kind end : ℕ) → TokenAt write l at kind (end - at) → plainKind kind ≡ Ident
-    → (tokens′ : List ℕ) → tokens′ ≡ putIf write tokens (5 * (k + n)) (kind ∷ (p + at) ∷ (end - at) ∷ number ∷ (at + 1) ∷ [])
-    → Progress l d₀ p number k write tokens₀ tokens′ end (n + 1) depth false
-past-word {l} {d₀} {p} {number} {k} {write} {tokens₀} {tokens} {at} {n} {depth} v h kind end t low tokens′ written =
-    let kept = word-keeps depth kind low in
-    let there : at + (end - at) ≡ end = omega (arith, t .some-bytes) in
-    let past = past-token v h (t .real) kind (end - at) (t .is) (t .named) tokens′ written depth (kept .0) in
-    subst (λ (a : Bool). Progress l d₀ p number k write tokens₀ tokens′ end (n + 1) depth a) (kept .1)
-    (subst (λ (i : ℕ). Progress l d₀ p number k write tokens₀ tokens′ i (n + 1) depth (eqb kind Implies)) there past)
+-- Of a line, with the depth before it and the place of its tokens: what is done where the cursor stands.
+module _ (l : List ℕ) (d₀ : ℕ) (place : Place) (tokens₀ : List ℕ) where
+  pub record Progress (tokens : List ℕ) (t : Cursor) : Type 0 where
+    pub done : List Token
+    pub inside : t .at ≤ length l
+    pub rest : cutsFrom 0 0 l ≡ withTokens done (cutsFrom (t .at) 0 (drop (t .at) l))
+    pub count : length done ≡ t .n
+    pub few : t .n ≤ t .at
+    pub depth-is : depthAfter d₀ done ≡ t .«open»
+    pub shallow : t .«open» ≤ d₀ + t .at
+    pub arrow-is : arrowAfter false done ≡ t .arrow
+    pub words : tokens ≡ putIf (place .write) tokens₀ (5 * place .first) (tokenWords (place .position) (place .number) done)
+
+  pub start : (spaces : ℕ) → spaces ≡ run isSpace l → Progress tokens₀ (cursorAt spaces d₀)
+  unfolding depthAfter arrowAfter tokenWords
+  start spaces is =
+      record {
+        done = [];
+        inside = spaces-le l spaces is;
+        rest = cuts-behind l spaces is ∙ sym (withTokens-none (cutsFrom spaces 0 (drop spaces l)));
+        count = refl;
+        few = omega arith;
+        depth-is = refl;
+        shallow = omega arith;
+        arrow-is = refl;
+        words = sym (putIf-none (place .write) tokens₀ (5 * place .first));
+      }
+
+module _ {l : List ℕ} {d₀ : ℕ} {place : Place} {tokens₀ tokens : List ℕ} {t : Cursor} (v : Progress l d₀ place tokens₀ tokens t) where
+  pub same-tokens : length tokens ≡ length tokens₀
+  same-tokens = ap length (v .words) ∙ length-putIf (place .write) tokens₀ (5 * place .first) (tokenWords (place .position) (place .number) (v .done))
+
+  pub at-end : length l ≤ t .at → cutsFrom 0 0 l ≡ cuts (v .done)
+  unfolding withTokens
+  at-end h = v .rest ∙ ap (withTokens (v .done)) (cuts-end (t .at) l h) ∙ ap cuts (append-nil (v .done))
+
+  module _ (h : t .at < length l) where
+    pub at-comment : cut (drop (t .at) l) ≡ comment → cutsFrom 0 0 l ≡ cuts (v .done)
+    unfolding withTokens
+    at-comment e = v .rest ∙ ap (withTokens (v .done)) (cuts-comment (t .at) l h e) ∙ ap cuts (append-nil (v .done))
+
+    pub at-failure : (f : Failure) → cut (drop (t .at) l) ≡ fails f → cutsFrom 0 0 l ≡ stops (movedBy (t .at) f)
+    unfolding withTokens
+    at-failure f e = v .rest ∙ ap (withTokens (v .done)) (cuts-fails (t .at) l h f e)
+
+    pub past-blank : cut (drop (t .at) l) ≡ blank → (t′ : Cursor) → t′ ≡ blankPast t → Progress l d₀ place tokens₀ tokens t′
+    past-blank e t′ is =
+        subst (Progress l d₀ place tokens₀ tokens) (sym is)
+        (record {
+          done = v .done;
+          inside = omega arith;
+          rest = v .rest ∙ ap (withTokens (v .done)) (cuts-blank (t .at) l h e);
+          count = v .count;
+          few = omega (arith, v .few);
+          depth-is = v .depth-is;
+          shallow = omega (arith, v .shallow);
+          arrow-is = v .arrow-is;
+          words = v .words;
+        })
+
+    -- A token, of the kind that the pass gives: that kind serves the depth and the arrow.
+    module _ {kind size : ℕ} (x : TokenAt (place .write) l (t .at) kind size) where
+      abbrev one : Token
+      one = tokenAt (x .real) (t .at) size
+
+      abbrev before : List ℕ
+      before = tokenWords (place .position) (place .number) (v .done)
+
+      given : (j : ℕ) → Ident < j → eqb (x .real) j ≡ eqb kind j
+      given j h = plain-eqb j (x .real) kind h (x .named .plain)
+
+      depth-then : depthAfter d₀ (v .done ++ (one ∷ [])) ≡ depthBy (t .«open») kind
+      unfolding depthBy
+      depth-then = depth-snoc d₀ (v .done) one ∙ rw (v .depth-is, given LParen (omega arith), given RParen (omega arith)) refl
+
+      words-then : putIf (place .write) tokens (5 * (place .first + t .n)) (wordsAt place (t .at) kind size)
+          ≡ putIf (place .write) tokens₀ (5 * place .first) (tokenWords (place .position) (place .number) (v .done ++ (one ∷ [])))
+      words-then =
+          let at : ℕ = 5 * (place .first + t .n) in
+          let ws : List ℕ = wordsAt place (t .at) kind size in
+          ap (λ (ts : List ℕ). putIf (place .write) ts at ws) (v .words)
+          ∙ putIf-append (place .write) tokens₀ (5 * place .first) at before ws (omega (arith, length-tokenWords (place .position) (place .number) (v .done), v .count))
+          ∙ putIf-by (place .write) tokens₀ (5 * place .first) _ (tokenWords (place .position) (place .number) (v .done ++ (one ∷ [])))
+          (λ w. ap (λ (k : ℕ). before ++ wordsAt place (t .at) k size) (sym (x .named .real w))
+          ∙ ap (λ (c : ℕ). before ++ (x .real ∷ (place .position + t .at) ∷ size ∷ place .number ∷ c ∷ [])) (add-one (t .at)) ∙ sym (words-snoc (place .position) (place .number) (v .done) one))
+
+      past : Progress l d₀ place tokens₀ (putIf (place .write) tokens (5 * (place .first + t .n)) (wordsAt place (t .at) kind size)) (tokenPast t kind size)
+      past =
+          record {
+            done = v .done ++ (one ∷ []);
+            inside = x .in-line;
+            rest = v .rest ∙ ap (withTokens (v .done)) (cuts-token (t .at) l h (x .real) size (x .is)) ∙ withTokens-more (v .done) one (cutsFrom (t .at + size) 0 (drop (t .at + size) l));
+            count = omega (arith, length-append (v .done) (one ∷ []), v .count);
+            few = omega (arith, v .few, x .some-bytes);
+            depth-is = depth-then;
+            shallow = omega (arith, v .shallow, depth-by-le (t .«open») kind, x .some-bytes);
+            arrow-is = arrow-snoc false (v .done) one ∙ given Implies (omega arith);
+            words = words-then;
+          }
+
+      pub past-token : (t′ : Cursor) → t′ ≡ tokenPast t kind size → (tokens′ : List ℕ)
+          → tokens′ ≡ putIf (place .write) tokens (5 * (place .first + t .n)) (wordsAt place (t .at) kind size) → Progress l d₀ place tokens₀ tokens′ t′
+      past-token t′ is tokens′ written =
+          subst (λ (ts : List ℕ). Progress l d₀ place tokens₀ ts t′) (sym written) (subst (Progress l d₀ place tokens₀ _) (sym is) past)
+
+      -- it has room where all tokens of the line have
+      pub room-for : (ts : List Token) → cutsFrom 0 0 l ≡ cuts ts → t .n < length ts
+      unfolding withTokens withToken
+      room-for ts all =
+          go (cutsFrom (t .at + size) 0 (drop (t .at + size) l)) (v .rest ∙ ap (withTokens (v .done)) (cuts-token (t .at) l h (x .real) size (x .is)))
+        where
+          go : (y : Cuts) → cutsFrom 0 0 l ≡ withTokens (v .done) (withToken one y) → t .n < length ts
+          go (cuts us) q =
+              let same : ts ≡ v .done ++ (one ∷ us) = cc in
+              omega (arith, ap length same, length-append (v .done) (one ∷ us), v .count)
+          go (stops f) q = let z : _≡_ {A = ℕ} 0 1 = cc in absurd (omega arith)
+
+  -- The line is done: all that was cut stands there, or the pass does not write.
+
+  abbrev Done : LineCuts → Type 0
+  Done r = (r ≡ lineCutsOf d₀ (cutsFrom 0 0 l)) × (tokens ≡ putIf (place .write) tokens₀ (5 * place .first) (tokenWords (place .position) (place .number) (tokensOf (cutsFrom 0 0 l))))
+
+  pub ended : cutsFrom 0 0 l ≡ cuts (v .done) → Done (Ends (t .n) (t .«open») (t .arrow))
+  ended e = (
+    (λ i. Ends (sym (v .count) i) (sym (v .depth-is) i) (sym (v .arrow-is) i)) ∙ ap (lineCutsOf d₀) (sym e),
+    v .words ∙ ap (λ (x : Cuts). putIf (place .write) tokens₀ (5 * place .first) (tokenWords (place .position) (place .number) (tokensOf x))) (sym e),
+  )
+
+  pub stopped : (f : Failure) (m : ℕ) → cutsFrom 0 0 l ≡ stops f → (place .write ≡ true → RoomFor (cutsFrom 0 0 l) (place .first) m) → Done (Stops (failureIn f))
+  stopped f m e room = (
+    ap (lineCutsOf d₀) (sym e),
+    v .words ∙ putIf-by (place .write) tokens₀ (5 * place .first) (tokenWords (place .position) (place .number) (v .done)) (tokenWords (place .position) (place .number) (tokensOf (cutsFrom 0 0 l)))
+        (λ w. absurd (subst (λ (x : Cuts). RoomFor x (place .first) m) e (room w))),
+  )
 
 -- a letter that does not begin `b'`
 pub word-begins : (a b : Bool) → (a && not b) ≡ true → (a ≡ true) × (b ≡ false)

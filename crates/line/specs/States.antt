@@ -1,11 +1,11 @@
 -- States and levels of the code, as the rules have them.
 -- Assumes nothing.
 use Prim.Native.Nat.{ℕ, suc, pred, _≤_}
-use mathlib.Core.Bool.{Bool, true, false}
+use mathlib.Core.Bool.{Bool, true, false, _||_}
 use mathlib.Core.List.{List, [], _∷_}
 use lib.Dec.{eqb}
-use lib.ListN.{take}
-use Rattle.rules.specs.Lists.{if_then_else_, overwrite}
+use lib.ListN.{length, take}
+use Rattle.rules.specs.Lists.{if_then_else_, ascii, begins, overwrite}
 use Rattle.rules.specs.Kinds.{LParen, RParen, Indent}
 use Rattle.rules.specs.Line as rules-line
 use Rattle.line.specs.declared.State.{State}
@@ -41,3 +41,7 @@ Within TooDeep = Unit {0}
 -- the depth that a token of this kind leaves
 unfoldable pub depthBy : (depth kind : ℕ) → ℕ
 depthBy d k = if eqb k LParen then suc d else if eqb k RParen then pred d else d
+
+-- the line ends or a comment begins
+unfoldable pub endsOrComment : List ℕ → Bool
+endsOrComment s = eqb (length s) 0 || (begins (ascii "#") s || begins (ascii "//") s)

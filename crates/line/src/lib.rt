@@ -2,19 +2,20 @@
 ghost use mathlib.Core.Path.{_≡_};
 ghost use mathlib.Core.Bool.{true, not, _&&_, _||_};
 ghost use mathlib.Core.List.{[], _∷_};
-ghost use Prim.Native.Nat.{_+_, _-_, _*_, _≤_, _<_};
+ghost use Prim.Native.Nat.{_+_, _-_, _*_, _/_, _%_, _≤_, _<_};
 ghost use lib.ListN.{length, drop, take};
 ghost use lib.Seq.{sets};
 ghost use Rattle.rules.specs.Lists.{ascii, begins, run, trimEnd, lastD};
 ghost use Rattle.rules.specs.Tables.{isBlank, letterClass};
-ghost use Rattle.rules.specs.Line.{isSpace, isTab, indentWidth, indentSize, isBlankLine, isCompared, compared, levelsOf, dedents, cutsFrom, readLine};
+ghost use Rattle.rules.specs.Line.{movedBy, isSpace, isTab, indentWidth, indentSize, isBlankLine, isCompared, compared, levelsOf, dedents, cutsFrom, readLine};
 ghost use Rattle.rules.specs.Records.{tokenWords};
 ghost use lib.Dec.{ltb, eqb};
+ghost use Rattle.cut.specs.Cuts.{failureOf};
 ghost use Rattle.spelling.specs.Bytes.{classTable, reachTable};
 ghost use Rattle.spelling.specs.Rows.{keywordTable};
 ghost use Rattle.spelling.specs.Signs.{signTable, signIndexTable};
-ghost use Rattle.line.specs.States.{stateOf, leading, comparedOf, widthsAfter, Within, depthBy};
-ghost use Rattle.line.specs.LineCuts.{lineCutsOf, tokensOf, RoomFor, wholeLine, lineReadOf, tokensIn, RoomIn, counted, countedOf, LevelsWithin};
+ghost use Rattle.line.specs.States.{stateOf, leading, comparedOf, widthsAfter, Within, depthBy, endsOrComment};
+ghost use Rattle.line.specs.LineCuts.{lineCutsOf, tokensOf, RoomFor, failureIn, cursorAt, blankPast, tokenPast, wordsAt, wholeLine, lineReadOf, tokensIn, RoomIn, counted, countedOf, LevelsWithin};
 ghost use Rattle.laws.specs.Puts.{putIf};
 
 // The state before a line; the widths of its open levels stand beside it, outermost first.
@@ -112,18 +113,54 @@ fn blank_end(line: &[u8]) -> usize
     i
 }
 
+// At `at` the line ends or a comment begins.
+fn ends_at(line: &[u8], at: usize) -> bool
+    requires { ⌜ at ≤ length (now line) ⌝ }
+    ensures { λ r. ⌜ r ≡ endsOrComment (drop at (now (line .entry))) ⌝ }
+{
+    if at == line.len() {
+        return true;
+    }
+    if line[at] == 35 {
+        return true;
+    }
+    cut::begins_at(line, at, b"//")
+}
+
 // After its blanks the line is empty or begins with `#` or `//`.
 pub fn line_is_blank_or_comment(line: &[u8]) -> bool
     ensures { λ r. ⌜ r ≡ isBlankLine (now (line .entry)) ⌝ }
 {
-    let at = blank_end(line);
-    if at == line.len() {
+    ends_at(line, blank_end(line))
+}
+
+// The same of a line whose leading spaces are counted: most often no tab or CR follows them.
+fn is_blank_behind(line: &[u8], spaces: usize) -> bool
+    requires { ⌜ spaces ≡ run isSpace (now line) ⌝ }
+    ensures { λ r. ⌜ r ≡ isBlankLine (now (line .entry)) ⌝ }
+{
+    if spaces == line.len() {
         return true;
     }
-    if cut::begins_at(line, at, b"#") {
-        return true;
+    if is_blank(line[spaces]) {
+        return line_is_blank_or_comment(line);
     }
-    cut::begins_at(line, at, b"//")
+    ends_at(line, spaces)
+}
+
+// The indent width of a line whose leading spaces are counted: most often no tab follows them.
+fn width_behind(line: &[u8], spaces: usize) -> u32
+    requires { ⌜ length (now line) ≤ 1_048_576 ⌝ }
+    requires { ⌜ spaces ≡ run isSpace (now line) ⌝ }
+    ensures { λ r. ⌜ r ≡ indentWidth (now (line .entry)) ⌝ }
+{
+    if spaces == line.len() {
+        return spaces as u32;
+    }
+    if line[spaces] == 9 {
+        return compute_indent(line);
+    }
+    spaces as u32
 }
 
 // The innermost width, 0 at base.
@@ -182,7 +219,8 @@ fn compare_levels(widths: &mut [u32], levels: usize, width: u32) -> Compared
 }
 
 // The line's width is compared: it is not blank, no bracket is open and no arrow is carried.
-fn is_compared(line: &[u8], s: State) -> bool
+fn is_compared(line: &[u8], spaces: usize, s: State) -> bool
+    requires { ⌜ spaces ≡ run isSpace (now line) ⌝ }
     ensures { λ r. ⌜ r ≡ isCompared (stateOf s []) (now (line .entry)) ⌝ }
 {
     if s.depth != 0 {
@@ -191,19 +229,20 @@ fn is_compared(line: &[u8], s: State) -> bool
     if s.arrow {
         return false;
     }
-    !line_is_blank_or_comment(line)
+    !is_blank_behind(line, spaces)
 }
 
-// The levels at a line's start.
-pub fn levels_of(line: &[u8], s: State, widths: &mut [u32]) -> Compared
+// The levels at the start of a line that begins with so many spaces.
+pub fn levels_of(line: &[u8], spaces: usize, s: State, widths: &mut [u32]) -> Compared
     requires { ⌜ (length (now line) ≤ 1_048_576) × (length (now widths) ≡ 16) × (s .levels ≤ 16) ⌝ }
+    requires { ⌜ spaces ≡ run isSpace (now line) ⌝ }
     ensures { λ r. ⌜ comparedOf r (now (widths .exit)) ≡ levelsOf 16 (stateOf s (now (widths .entry))) (now (line .entry)) ⌝ }
     ensures { λ r. ⌜ Within r ⌝ }
     ensures { λ _. ⌜ now (widths .exit) ≡ widthsAfter (levelsOf 16 (stateOf s (now (widths .entry))) (now (line .entry))) (now (widths .entry)) ⌝ }
 {
     let levels = s.levels;
-    if is_compared(line, s) {
-        return compare_levels(widths, levels, compute_indent(line));
+    if is_compared(line, spaces, s) {
+        return compare_levels(widths, levels, width_behind(line, spaces));
     }
     Compared::Levels(Lead {
         opens: false,
@@ -244,34 +283,6 @@ pub fn put_token(
     put_five(tokens, 5 * k, kind, position, size, number, column);
 }
 
-// The same for a token that stands at an offset of the line which starts at `position` and has this number.
-fn put_cut(
-    tokens: &mut [u32],
-    write: bool,
-    k: usize,
-    kind: u32,
-    position: u32,
-    number: u32,
-    at: usize,
-    size: usize,
-)
-    requires { ⌜ (position + at ≤ 1_048_576) × (size ≤ 1_048_576) ⌝ }
-    requires { ⌜ (write ≡ true → 5 * k + 5 ≤ length (now tokens)) ⌝ }
-    ensures { λ _. ⌜ now (tokens .exit) ≡ putIf write (now (tokens .entry)) (5 * k) (kind ∷ (position + at) ∷ size ∷ number ∷ (at + 1) ∷ []) ⌝ }
-{
-    let offset = at as u32;
-    put_token(
-        tokens,
-        write,
-        k,
-        kind,
-        position + offset,
-        size as u32,
-        number,
-        offset + 1,
-    );
-}
-
 // So many Dedents from record k on, where the pass writes, at this position and line, column 1.
 pub fn put_dedents(
     tokens: &mut [u32],
@@ -308,6 +319,99 @@ pub fn depth_by(depth: u32, kind: u32) -> u32
     depth - 1
 }
 
+// Where the tokens of a line go: whether the pass writes them, the number of the first record, the line's start and its number.
+pub struct Place {
+    pub write: bool,
+    pub first: usize,
+    pub position: u32,
+    pub number: u32,
+}
+
+// How far a line is cut: the next byte, the number of tokens so far, the depth after them and whether the last one is an arrow.
+pub struct Cursor {
+    pub at: usize,
+    pub n: usize,
+    pub open: u32,
+    pub arrow: bool,
+}
+
+// Before the first token of a line.
+fn cursor_at(at: usize, depth: u32) -> Cursor
+    ensures { λ r. ⌜ r ≡ cursorAt at depth ⌝ }
+{
+    Cursor {
+        at: at,
+        n: 0,
+        open: depth,
+        arrow: false,
+    }
+}
+
+// Past a blank byte.
+fn past_blank(t: Cursor) -> Cursor
+    requires { ⌜ t .at < 1_048_576 ⌝ }
+    ensures { λ r. ⌜ r ≡ blankPast t ⌝ }
+{
+    Cursor {
+        at: t.at + 1,
+        n: t.n,
+        open: t.open,
+        arrow: t.arrow,
+    }
+}
+
+// Past a token of this kind and length, which is put into its record where the pass writes.
+fn past_token(tokens: &mut [u32], place: Place, t: Cursor, kind: u32, size: usize) -> Cursor
+    requires { ⌜ (place .position + (t .at + size) ≤ 1_048_576) × ((place .first + t .n ≤ 8_388_608) × (t .open ≤ 8_388_608)) ⌝ }
+    requires { ⌜ (place .write ≡ true → 5 * (place .first + t .n) + 5 ≤ length (now tokens)) ⌝ }
+    ensures { λ r. ⌜ r ≡ tokenPast t kind size ⌝ }
+    ensures { λ _. ⌜ now (tokens .exit) ≡ putIf (place .write) (now (tokens .entry)) (5 * (place .first + t .n)) (wordsAt place (t .at) kind size) ⌝ }
+{
+    let offset = t.at as u32;
+    put_token(
+        tokens,
+        place.write,
+        place.first + t.n,
+        kind,
+        place.position + offset,
+        size as u32,
+        place.number,
+        offset + 1,
+    );
+    Cursor {
+        at: t.at + size,
+        n: t.n + 1,
+        open: depth_by(t.open, kind),
+        arrow: kind == 67,
+    }
+}
+
+// Past the sign of this code. Most signs have one byte; that length is known without waiting for the code.
+fn past_sign(tokens: &mut [u32], place: Place, t: Cursor, code: u32) -> Cursor
+    requires { ⌜ (place .position + (t .at + (code / 128 + 1)) ≤ 1_048_576) × ((place .first + t .n ≤ 8_388_608) × (t .open ≤ 8_388_608)) ⌝ }
+    requires { ⌜ (place .write ≡ true → 5 * (place .first + t .n) + 5 ≤ length (now tokens)) ⌝ }
+    ensures { λ r. ⌜ r ≡ tokenPast t (code % 128) (code / 128 + 1) ⌝ }
+    ensures { λ _. ⌜ now (tokens .exit) ≡ putIf (place .write) (now (tokens .entry)) (5 * (place .first + t .n)) (wordsAt place (t .at) (code % 128) (code / 128 + 1)) ⌝ }
+{
+    if code < 128 {
+        return past_token(tokens, place, t, code, 1);
+    }
+    past_token(tokens, place, t, code % 128, (code / 128) as usize + 1)
+}
+
+// A failure of the rest of a line from `at` on, as one of the line.
+fn moved_by(at: usize, f: cut::Failure) -> cut::Failure
+    requires { ⌜ at + f .at ≤ 1_048_576 ⌝ }
+    ensures { λ r. ⌜ r ≡ failureIn (movedBy at (failureOf f)) ⌝ }
+{
+    cut::Failure {
+        detail: f.detail,
+        found: f.found,
+        at: at + f.at,
+        size: f.size,
+    }
+}
+
 // What the cuts of a line give: the number of tokens, the depth after them and whether the last one is an arrow; or the first failure.
 pub enum LineCuts {
     Ends(usize, u32, bool),
@@ -325,20 +429,18 @@ fn is_word(c: u8, line: &[u8], at: usize) -> bool
     !cut::begins_literal(line, at)
 }
 
-// The tokens of a line, where the pass writes from record k on: the line starts at `position` and has this number.
-// A pass that does not write asks for no kinds of words.
-pub fn cut_line(
+// The tokens of a line that begins with so many spaces. Words, numbers and signs are cut in the loop itself, the others are called for. A
+// pass that does not write asks for no kinds of words.
+fn cut_line(
     class: &[u8; 256],
-    reach: &[u8; 768],
+    reach: &[u8; 1024],
     index: &[u8; 256],
     signs: &[u8; 360],
     keywords: &[u8; 539],
     line: &[u8],
+    spaces: usize,
     tokens: &mut [u32],
-    write: bool,
-    k: usize,
-    position: u32,
-    number: u32,
+    place: Place,
     depth: u32,
 ) -> LineCuts
     requires { ⌜ now class ≡ classTable ⌝ }
@@ -346,56 +448,54 @@ pub fn cut_line(
     requires { ⌜ now index ≡ signIndexTable ⌝ }
     requires { ⌜ now signs ≡ signTable ⌝ }
     requires { ⌜ now keywords ≡ keywordTable ⌝ }
-    requires { ⌜ (position + length (now line) ≤ 1_048_576) × ((depth ≤ 4_194_304) × (k ≤ 4_194_304)) ⌝ }
-    requires { ⌜ (write ≡ true → RoomFor (cutsFrom 0 0 (now line)) k (length (now tokens))) ⌝ }
+    requires { ⌜ spaces ≡ run isSpace (now line) ⌝ }
+    requires { ⌜ (place .position + length (now line) ≤ 1_048_576) × ((depth ≤ 4_194_304) × (place .first ≤ 4_194_304)) ⌝ }
+    requires { ⌜ (place .write ≡ true → RoomFor (cutsFrom 0 0 (now line)) (place .first) (length (now tokens))) ⌝ }
     ensures { λ r. ⌜ r ≡ lineCutsOf depth (cutsFrom 0 0 (now (line .entry))) ⌝ }
-    ensures { λ _. ⌜ now (tokens .exit) ≡ putIf write (now (tokens .entry)) (5 * k) (tokenWords position number (tokensOf (cutsFrom 0 0 (now (line .entry))))) ⌝ }
+    ensures { λ _. ⌜ now (tokens .exit) ≡ putIf (place .write) (now (tokens .entry)) (5 * place .first) (tokenWords (place .position) (place .number) (tokensOf (cutsFrom 0 0 (now (line .entry))))) ⌝ }
 {
-    let mut at: usize = 0;
-    let mut n: usize = 0;
-    let mut open = depth;
-    let mut arrow = false;
-    while at < line.len() {
+    let mut t = cursor_at(spaces, depth);
+    while t.at < line.len() {
+        let at = t.at;
         let c = spelling::class_of(class, line[at]);
         if c == 0 {
-            at += 1;
+            t = past_blank(t);
             continue;
         }
         if is_word(c, line, at) {
             let end = spelling::run_end(reach, line, at, 0);
-            let kind = cut::kind_of_word(keywords, line, at, end, write);
-            put_cut(tokens, write, k + n, kind, position, number, at, end - at);
-            arrow = false;
-            n += 1;
-            at = end;
+            let kind = cut::kind_of_word(keywords, line, at, end, place.write);
+            t = past_token(tokens, place, t, kind, end - at);
             continue;
         }
-        match cut::next_token(c, class, reach, index, signs, keywords, line, at, write) {
-            cut::Cut::Blank => {
-                at += 1;
+        if c == 3 {
+            let number = cut::scan_number(reach, line, at);
+            t = past_token(tokens, place, t, 46, number.digits + number.suffix);
+            continue;
+        }
+        if c == 5 {
+            let code = spelling::sign_code(index, signs, line, at);
+            if 1 < code {
+                t = past_sign(tokens, place, t, code);
                 continue;
             }
+        }
+        match cut::cut_by_class(class, reach, index, signs, keywords, line, at, place.write) {
+            cut::Cut::Blank => {
+                t = past_blank(t);
+            }
             cut::Cut::Comment => {
-                return LineCuts::Ends(n, open, arrow);
+                return LineCuts::Ends(t.n, t.open, t.arrow);
             }
             cut::Cut::Token(kind, size) => {
-                put_cut(tokens, write, k + n, kind, position, number, at, size);
-                open = depth_by(open, kind);
-                arrow = kind == 67;
-                n += 1;
-                at += size;
+                t = past_token(tokens, place, t, kind, size);
             }
             cut::Cut::Fails(f) => {
-                return LineCuts::Stops(cut::Failure {
-                    detail: f.detail,
-                    found: f.found,
-                    at: at + f.at,
-                    size: f.size,
-                });
+                return LineCuts::Stops(moved_by(at, f));
             }
         }
     }
-    LineCuts::Ends(n, open, arrow)
+    LineCuts::Ends(t.n, t.open, t.arrow)
 }
 
 // The Indent or the Dedents at a line's start, where the pass writes; how many they are.
@@ -429,16 +529,14 @@ pub enum LineRead {
 // A line whose levels are known: what stands at its start, its cuts, and the Newline.
 fn cut_after(
     class: &[u8; 256],
-    reach: &[u8; 768],
+    reach: &[u8; 1024],
     index: &[u8; 256],
     signs: &[u8; 360],
     keywords: &[u8; 539],
     line: &[u8],
+    spaces: usize,
     tokens: &mut [u32],
-    write: bool,
-    k: usize,
-    position: u32,
-    number: u32,
+    place: Place,
     depth: u32,
     lead: Lead,
 ) -> LineRead
@@ -447,13 +545,26 @@ fn cut_after(
     requires { ⌜ now index ≡ signIndexTable ⌝ }
     requires { ⌜ now signs ≡ signTable ⌝ }
     requires { ⌜ now keywords ≡ keywordTable ⌝ }
-    requires { ⌜ (position + length (now line) ≤ 1_048_576) × ((depth ≤ 4_194_304) × (k ≤ 3_000_000)) ⌝ }
-    requires { ⌜ lead .closes ≤ 16 ⌝ }
-    requires { ⌜ (write ≡ true → RoomFor (wholeLine lead (now line) (cutsFrom 0 0 (now line))) k (length (now tokens))) ⌝ }
+    requires { ⌜ (place .position + length (now line) ≤ 1_048_576) × ((depth ≤ 4_194_304) × (place .first ≤ 3_000_000)) ⌝ }
+    requires { ⌜ (lead .closes ≤ 16) × (spaces ≡ run isSpace (now line)) ⌝ }
+    requires { ⌜ (place .write ≡ true → RoomFor (wholeLine lead (now line) (cutsFrom 0 0 (now line))) (place .first) (length (now tokens))) ⌝ }
     ensures { λ r. ⌜ r ≡ lineReadOf lead (lineCutsOf depth (cutsFrom 0 0 (now (line .entry)))) ⌝ }
-    ensures { λ _. ⌜ now (tokens .exit) ≡ putIf write (now (tokens .entry)) (5 * k) (tokenWords position number (tokensOf (wholeLine lead (now (line .entry)) (cutsFrom 0 0 (now (line .entry)))))) ⌝ }
+    ensures { λ _. ⌜ now (tokens .exit) ≡ putIf (place .write) (now (tokens .entry)) (5 * place .first) (tokenWords (place .position) (place .number) (tokensOf (wholeLine lead (now (line .entry)) (cutsFrom 0 0 (now (line .entry)))))) ⌝ }
 {
-    let m = put_leading(tokens, write, k, lead, position, number);
+    let m = put_leading(
+        tokens,
+        place.write,
+        place.first,
+        lead,
+        place.position,
+        place.number,
+    );
+    let inner = Place {
+        write: place.write,
+        first: place.first + m,
+        position: place.position,
+        number: place.number,
+    };
     match cut_line(
         class,
         reach,
@@ -461,23 +572,21 @@ fn cut_after(
         signs,
         keywords,
         line,
+        spaces,
         tokens,
-        write,
-        k + m,
-        position,
-        number,
+        inner,
         depth,
     ) {
         LineCuts::Ends(n, open, arrow) => {
             let size = line.len() as u32;
             put_token(
                 tokens,
-                write,
-                k + m + n,
+                place.write,
+                place.first + m + n,
                 92,
-                position + size,
+                place.position + size,
                 0,
-                number,
+                place.number,
                 size + 1,
             );
             LineRead::Reads(
@@ -496,7 +605,7 @@ fn cut_after(
 // One line from the state before it; `widths` holds the open levels and then those after the line.
 pub fn read_line(
     class: &[u8; 256],
-    reach: &[u8; 768],
+    reach: &[u8; 1024],
     index: &[u8; 256],
     signs: &[u8; 360],
     keywords: &[u8; 539],
@@ -523,7 +632,14 @@ pub fn read_line(
     ensures { λ _. ⌜ now (tokens .exit) ≡ putIf write (now (tokens .entry)) (5 * k) (tokenWords position number (tokensIn (readLine 16 (stateOf s (now (widths .entry))) (now (line .entry))))) ⌝ }
 {
     let depth = s.depth;
-    match levels_of(line, s, widths) {
+    let spaces = spelling::run_end(reach, line, 0, 3);
+    let place = Place {
+        write: write,
+        first: k,
+        position: position,
+        number: number,
+    };
+    match levels_of(line, spaces, s, widths) {
         Compared::Levels(lead) => cut_after(
             class,
             reach,
@@ -531,11 +647,9 @@ pub fn read_line(
             signs,
             keywords,
             line,
+            spaces,
             tokens,
-            write,
-            k,
-            position,
-            number,
+            place,
             depth,
             lead,
         ),

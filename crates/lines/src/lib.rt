@@ -145,7 +145,7 @@ pub enum Step {
 // The line at `at` of a text that begins at byte `base` of the whole: where the pass writes, its record m and its tokens from k on.
 pub fn next_line(
     class: &[u8; 256],
-    reach: &[u8; 768],
+    reach: &[u8; 1024],
     index: &[u8; 256],
     signs: &[u8; 360],
     keywords: &[u8; 539],

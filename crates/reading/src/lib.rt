@@ -25,7 +25,7 @@ pub enum Pass {
 // One pass over the lines of a text: it counts, and where it writes, it stores the records.
 pub fn pass_lines(
     class: &[u8; 256],
-    reach: &[u8; 768],
+    reach: &[u8; 1024],
     index: &[u8; 256],
     signs: &[u8; 360],
     keywords: &[u8; 539],
@@ -126,7 +126,7 @@ pub enum ReadAnswer {
 // The records of a text that was counted, where both buffers hold them.
 fn store_records(
     class: &[u8; 256],
-    reach: &[u8; 768],
+    reach: &[u8; 1024],
     index: &[u8; 256],
     signs: &[u8; 360],
     keywords: &[u8; 539],

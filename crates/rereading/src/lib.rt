@@ -126,7 +126,7 @@ pub enum Reread {
 // then the end of it.
 pub fn read_on(
     class: &[u8; 256],
-    reach: &[u8; 768],
+    reach: &[u8; 1024],
     index: &[u8; 256],
     signs: &[u8; 360],
     keywords: &[u8; 539],
@@ -207,7 +207,7 @@ pub fn read_on(
 // on; the state after them.
 pub fn rewrite_lines(
     class: &[u8; 256],
-    reach: &[u8; 768],
+    reach: &[u8; 1024],
     index: &[u8; 256],
     signs: &[u8; 360],
     keywords: &[u8; 539],

@@ -1,4 +1,4 @@
--- Runs by the table: the table's rule, a turn of the loop, and the runs of words, hexadecimal and decimal digits.
+-- Runs by the table: the table's rule, a turn of the loop, and the runs of words, digits and spaces.
 -- Assumes nothing.
 use Prim.Native.Nat.{ℕ, _+_, _*_, _/_, _%_, _≤_, _<_}
 use mathlib.Core.Path.{_≡_, refl, sym, _∙_}
@@ -9,16 +9,17 @@ use lib.ListN.{length, getD, drop, length-drop}
 use Rattle.laws.proofs.Below.{entry}
 use Rattle.rules.specs.Lists.{bit, run}
 use Rattle.rules.specs.Cut.{inDecimal, inHex, inWord}
+use Rattle.rules.specs.Line.{isSpace}
 use Rattle.rules.proofs.ListLaws.{run-pass, run-stop, run-le}
 use Rattle.spelling.specs.Bytes.{reachTable, reaches, misses}
 
 -- the table's answer for one byte
-pub miss-bit : (which b : ℕ) {t : List ℕ} → t ≡ reachTable → which < 3 → b < 256 → getD t (256 * which + b) 0 ≡ bit (misses which b)
+pub miss-bit : (which b : ℕ) {t : List ℕ} → t ≡ reachTable → which < 4 → b < 256 → getD t (256 * which + b) 0 ≡ bit (misses which b)
 unfolding reachTable
 miss-bit which b e k h =
     let q : (256 * which + b) / 256 ≡ which = omega arith in
     let r : (256 * which + b) % 256 ≡ b = omega arith in
-    rw (e, entry (λ i. bit (misses (i / 256) (i % 256))) 768 (256 * which + b) 0 (omega arith), q, r)
+    rw (e, entry (λ i. bit (misses (i / 256) (i % 256))) 1024 (256 * which + b) 0 (omega arith), q, r)
 
 pub missed : (which b : ℕ) → reaches which b ≡ not (misses which b)
 missed which b = go (reaches which b)
@@ -62,3 +63,7 @@ run-hex s = refl
 pub run-decimal : (s : List ℕ) → run (reaches 2) s ≡ run inDecimal s
 unfolding reaches
 run-decimal s = refl
+
+pub run-spaces : (s : List ℕ) → run (reaches 3) s ≡ run isSpace s
+unfolding reaches
+run-spaces s = refl

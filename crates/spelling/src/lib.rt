@@ -43,8 +43,9 @@ pub fn class_of(table: &[u8; 256], b: u8) -> u8
     table[b as usize]
 }
 
-// 1 for a byte that ends a word, otherwise 0; from 256 on for one that ends hexadecimal digits, from 512 on for one that ends decimal ones.
-const REACH: [u8; 768] = *b"\
+// 1 for a byte that ends a word, otherwise 0; from 256 on for one that ends hexadecimal digits, from 512 on for one that ends decimal ones,
+// from 768 on for one that ends spaces.
+const REACH: [u8; 1024] = *b"\
     \x01\x01\x01\x01\x01\x01\x01\x01\x01\x01\x01\x01\x01\x01\x01\x01\
     \x01\x01\x01\x01\x01\x01\x01\x01\x01\x01\x01\x01\x01\x01\x01\x01\
     \x01\x01\x01\x01\x01\x01\x01\x01\x01\x01\x01\x01\x01\x01\x01\x01\
@@ -92,29 +93,45 @@ const REACH: [u8; 768] = *b"\
     \x01\x01\x01\x01\x01\x01\x01\x01\x01\x01\x01\x01\x01\x01\x01\x01\
     \x01\x01\x01\x01\x01\x01\x01\x01\x01\x01\x01\x01\x01\x01\x01\x01\
     \x01\x01\x01\x01\x01\x01\x01\x01\x01\x01\x01\x01\x01\x01\x01\x01\
+    \x01\x01\x01\x01\x01\x01\x01\x01\x01\x01\x01\x01\x01\x01\x01\x01\
+    \x01\x01\x01\x01\x01\x01\x01\x01\x01\x01\x01\x01\x01\x01\x01\x01\
+    \x01\x01\x01\x01\x01\x01\x01\x01\x01\x01\x01\x01\x01\x01\x01\x01\
+    \x00\x01\x01\x01\x01\x01\x01\x01\x01\x01\x01\x01\x01\x01\x01\x01\
+    \x01\x01\x01\x01\x01\x01\x01\x01\x01\x01\x01\x01\x01\x01\x01\x01\
+    \x01\x01\x01\x01\x01\x01\x01\x01\x01\x01\x01\x01\x01\x01\x01\x01\
+    \x01\x01\x01\x01\x01\x01\x01\x01\x01\x01\x01\x01\x01\x01\x01\x01\
+    \x01\x01\x01\x01\x01\x01\x01\x01\x01\x01\x01\x01\x01\x01\x01\x01\
+    \x01\x01\x01\x01\x01\x01\x01\x01\x01\x01\x01\x01\x01\x01\x01\x01\
+    \x01\x01\x01\x01\x01\x01\x01\x01\x01\x01\x01\x01\x01\x01\x01\x01\
+    \x01\x01\x01\x01\x01\x01\x01\x01\x01\x01\x01\x01\x01\x01\x01\x01\
+    \x01\x01\x01\x01\x01\x01\x01\x01\x01\x01\x01\x01\x01\x01\x01\x01\
+    \x01\x01\x01\x01\x01\x01\x01\x01\x01\x01\x01\x01\x01\x01\x01\x01\
+    \x01\x01\x01\x01\x01\x01\x01\x01\x01\x01\x01\x01\x01\x01\x01\x01\
+    \x01\x01\x01\x01\x01\x01\x01\x01\x01\x01\x01\x01\x01\x01\x01\x01\
+    \x01\x01\x01\x01\x01\x01\x01\x01\x01\x01\x01\x01\x01\x01\x01\x01\
     \x01\x01\x01\x01\x01\x01\x01\x01\x01\x01\x01\x01\x01\x01\x01\x01";
 
 // The table of runs: a caller makes it once and lends it.
-pub fn reach_table() -> [u8; 768]
+pub fn reach_table() -> [u8; 1024]
     ensures { λ r. ⌜ r ≡ reachTable ⌝ }
 {
     REACH
 }
 
-// 1 where a byte ends the run `which`, otherwise 0: 0 is a word, 1 hexadecimal and 2 decimal digits.
-fn miss(table: &[u8; 768], b: u8, which: usize) -> u32
+// 1 where a byte ends the run `which`, otherwise 0: 0 is a word, 1 hexadecimal and 2 decimal digits, 3 spaces.
+fn miss(table: &[u8; 1024], b: u8, which: usize) -> u32
     requires { ⌜ now table ≡ reachTable ⌝ }
-    requires { ⌜ which < 3 ⌝ }
+    requires { ⌜ which < 4 ⌝ }
     ensures { λ r. ⌜ r ≡ bit (misses which b) ⌝ }
 {
     table[256 * which + b as usize] as u32
 }
 
 // Which of the four bytes from `at` on end the run: bit j is set for byte j.
-fn miss_mask(table: &[u8; 768], line: &[u8], at: usize, which: usize) -> u32
+fn miss_mask(table: &[u8; 1024], line: &[u8], at: usize, which: usize) -> u32
     requires { ⌜ now table ≡ reachTable ⌝ }
     requires { ⌜ at + 4 ≤ length (now line) ⌝ }
-    requires { ⌜ which < 3 ⌝ }
+    requires { ⌜ which < 4 ⌝ }
     ensures { λ r. ⌜ r ≡ maskOf (misses which) 4 (drop at (now (line .entry))) ⌝ }
 {
     let a = miss(table, line[at], which);
@@ -125,10 +142,10 @@ fn miss_mask(table: &[u8; 768], line: &[u8], at: usize, which: usize) -> u32
 }
 
 // Where the run from `at` on ends, byte by byte: at a byte that ends it or at the line's end.
-fn run_by_bytes(table: &[u8; 768], line: &[u8], at: usize, which: usize) -> usize
+fn run_by_bytes(table: &[u8; 1024], line: &[u8], at: usize, which: usize) -> usize
     requires { ⌜ now table ≡ reachTable ⌝ }
     requires { ⌜ at ≤ length (now line) ⌝ }
-    requires { ⌜ which < 3 ⌝ }
+    requires { ⌜ which < 4 ⌝ }
     ensures { λ r. ⌜ r ≡ at + run (reaches which) (drop at (now (line .entry))) ⌝ }
 {
     let mut i = at;
@@ -142,10 +159,10 @@ fn run_by_bytes(table: &[u8; 768], line: &[u8], at: usize, which: usize) -> usiz
 }
 
 // The same, four bytes a turn: a run's length is hard to foretell, and a mask finds its end without a branch at each byte.
-pub fn run_end(table: &[u8; 768], line: &[u8], at: usize, which: usize) -> usize
+pub fn run_end(table: &[u8; 1024], line: &[u8], at: usize, which: usize) -> usize
     requires { ⌜ now table ≡ reachTable ⌝ }
     requires { ⌜ at ≤ length (now line) ⌝ }
-    requires { ⌜ which < 3 ⌝ }
+    requires { ⌜ which < 4 ⌝ }
     ensures { λ r. ⌜ r ≡ at + run (reaches which) (drop at (now (line .entry))) ⌝ }
 {
     let mut i = at;

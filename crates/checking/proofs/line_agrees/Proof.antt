@@ -1,35 +1,65 @@
 -- `checking::line_agrees` meets its contract.
 -- Assumes nothing.
-use Prim.Native.Nat.{_≤_}
-use mathlib.Core.Path.{subst}
+use Prim.Native.Nat.{ℕ, _≤_}
+use mathlib.Core.Path.{_≡_, subst}
+use mathlib.Core.List.{List}
 use native.Mathlib.Omega.{arith}
+use lib.ListN.{take}
 use Rattle.rules.specs.Failure.{failure, badIndent}
-use Rattle.rules.specs.Line.{failed, overLimit, indentSize, cutsFrom}
-use Rattle.line.specs.States.{stateOf, Within}
+use Rattle.rules.specs.Line.{State, levels, failed, overLimit, indentSize, cutsFrom, levelsOf}
+use Rattle.spelling.proofs.ReachLaws.{run-spaces}
+use Rattle.line.specs.States.{stateOf, leading, Within}
 use Rattle.line.specs.LineCuts.{lineCutsOf}
+use Rattle.line.specs.declared.Lead.{Lead}
 use Rattle.line.proofs.Whole.{read-unequal, read-deep, levels-known}
 use Rattle.checking.proofs.LineReplies.{agreed-line, halted-line, agrees-within}
 use borrow.Author.Needs.{needs}
 use Rattle.checking.proofs.line_agrees.Statement.{statement}
 use Rattle.checking.proofs.line_agrees.Tie as tie
 
+-- What the function was called with.
+module _ (s : tie.Start) where
+  abbrev line : List ℕ
+  line = s .args .line .now
+
+  abbrev state : State
+  state = stateOf (s .args .s) (s .args .widths .now)
+
+-- The levels are compared.
+abbrev start : tie.After-levels-of → tie.Start
+start v = v .before .before .before .before .before .before
+
+-- The levels are known.
+module _ (k : tie.After-known-told) where
+  abbrev compared : tie.After-levels-of
+  compared = k .before .before .before .before .before
+
+  abbrev lead : Lead
+  lead = k .before .lead .given .0 .0
+
+  levels-are : levelsOf 16 (state (start compared)) (line (start compared)) ≡ levels (leading lead) (take (lead .levels) (compared .levels-of .last .1 .1 .1 .0))
+  levels-are = levels-known (state (start compared)) (line (start compared)) _ lead _ (compared .levels-of .ensures .0) (k .before .lead .given .1)
+
+  within : (lead .levels ≤ 16) × (lead .closes ≤ 16)
+  within = subst Within (k .before .lead .given .1) (compared .levels-of .ensures .1 .0)
+
+run-end-requires : tie.Need-run-end-requires
+run-end-requires c κs = (c .before .before .before .pre .1 .0, (omega arith, omega arith))
+
 levels-of-requires : tie.Need-levels-of-requires
 levels-of-requires c κs =
-    let q = c .before .before .before .before .pre .1 .1 .1 .1 .1 in
-    (omega (arith, q .0 .0), q .1 .0, q .1 .1)
+    let r = c .before in
+    let s = r .before .before .before .before in
+    let q = s .pre .1 .1 .1 .1 .1 in
+    ((omega (arith, q .0 .0), q .1 .0, q .1 .1), omega (arith, r .run-end .ensures, run-spaces (line s)))
 
 enum-known-lead : tie.Need-enum-known-lead
 enum-known-lead c = search needs
 
 tokens-agree-requires : tie.Need-tokens-agree-requires
 tokens-agree-requires c κs =
-    let a = c .before .before .before .before .before .before .before .before .before .before .args in
-    let p = c .before .before .before .before .before .before .before .before .before .before .pre in
-    let q = p .1 .1 .1 .1 .1 in
-    let lead = c .before .lead .given .0 .0 in
-    let e = levels-known (stateOf (a .s) (a .widths .now)) (a .line .now) _ lead _ (c .before .before .before .before .before .levels-of .ensures .0) (c .before .lead .given .1) in
-    let within : (lead .levels ≤ 16) × (lead .closes ≤ 16) = subst Within (c .before .lead .given .1) (c .before .before .before .before .before .levels-of .ensures .1 .0) in
-    (p .0, (p .1 .0, (p .1 .1 .0, (p .1 .1 .1 .0, (p .1 .1 .1 .1 .0, (q .0, within .1))))))
+    let p = start (compared c) .pre in
+    (p .0, (p .1 .0, (p .1 .1 .0, (p .1 .1 .1 .0, (p .1 .1 .1 .1 .0, (p .1 .1 .1 .1 .1 .0, within c .1))))))
 
 enum-told : tie.Need-enum-told
 enum-told c = search needs
@@ -42,14 +72,11 @@ same-length c = search needs
 
 returns : tie.Need-returns
 returns c =
-    let a = c .before .before .before .before .before .before .before .before .before .before .before .args in
-    let p = c .before .before .before .before .before .before .before .before .before .before .before .pre in
-    let q = p .1 .1 .1 .1 .1 in
-    let lead = c .before .before .lead .given .0 .0 in
-    let e = levels-known (stateOf (a .s) (a .widths .now)) (a .line .now) _ lead _ (c .before .before .before .before .before .before .levels-of .ensures .0) (c .before .before .lead .given .1) in
-    let within : (lead .levels ≤ 16) × (lead .closes ≤ 16) = subst Within (c .before .before .lead .given .1) (c .before .before .before .before .before .before .levels-of .ensures .1 .0) in (
-      agreed-line (stateOf (a .s) (a .widths .now)) (a .line .now) lead _ (a .position) (a .number) (a .k) (a .tokens .now) _ e (c .tokens-agree .ensures),
-      agrees-within lead _ (lineCutsOf (a .s .depth) (cutsFrom 0 0 (a .line .now))) _ (c .tokens-agree .ensures) (within .0),
+    let k = c .before in
+    let s = start (compared k) in
+    let a = s .args in (
+      agreed-line (state s) (line s) (lead k) _ (a .position) (a .number) (a .k) (a .tokens .now) _ (levels-are k) (c .tokens-agree .ensures),
+      agrees-within (lead k) _ (lineCutsOf (a .s .depth) (cutsFrom 0 0 (line s))) _ (c .tokens-agree .ensures) (within k .0),
     )
 
 same-length-2 : tie.Need-same-length-2
@@ -57,21 +84,24 @@ same-length-2 c = search needs
 
 returns-2 : tie.Need-returns-2
 returns-2 c =
-    let a = c .before .before .before .before .before .before .before .before .before .args in
-    (halted-line (stateOf (a .s) (a .widths .now)) (a .line .now) (failed (failure badIndent 0 0 (indentSize (a .line .now)))) _ (read-unequal (stateOf (a .s) (a .widths .now)) (a .line .now) _ _ (c .before .before .before .before .levels-of .ensures .0) (c .enum-told .given .1)), tt)
+    let v = c .before .before .before .before in
+    let s = start v in
+    (halted-line (state s) (line s) (failed (failure badIndent 0 0 (indentSize (line s)))) _ (read-unequal (state s) (line s) _ _ (v .levels-of .ensures .0) (c .enum-told .given .1)), tt)
 
 same-length-3 : tie.Need-same-length-3
 same-length-3 c = search needs
 
 returns-3 : tie.Need-returns-3
 returns-3 c =
-    let a = c .before .before .before .before .before .before .before .before .before .args in
-    (halted-line (stateOf (a .s) (a .widths .now)) (a .line .now) overLimit _ (read-deep (stateOf (a .s) (a .widths .now)) (a .line .now) _ _ (c .before .before .before .before .levels-of .ensures .0) (c .enum-told2 .given .1)), tt)
+    let v = c .before .before .before .before in
+    let s = start v in
+    (halted-line (state s) (line s) overLimit _ (read-deep (state s) (line s) _ _ (v .levels-of .ensures .0) (c .enum-told2 .given .1)), tt)
 
 pub line-agrees-spec : {M : Type 1} → statement M
 line-agrees-spec =
     tie.close
     (tie.spec
+    run-end-requires
     levels-of-requires
     enum-known-lead
     tokens-agree-requires

@@ -1,25 +1,19 @@
 -- `cut::sign_or_comment` meets its contract, by the code of a sign.
 -- Assumes nothing.
-use Prim.Native.Nat.{ℕ, _+_, _/_, _%_, _<_}
 use mathlib.Core.Path.{_≡_, refl, sym, ap, _∙_}
 use native.Mathlib.Omega.{arith}
-use native.Mathlib.Numerals.{add-one}
 use lib.ListN.{drop}
-use borrow.Author.Tests.{ne-eqb}
 use borrow.Author.Needs.{needs}
 use Rattle.rules.specs.Failure.{failure, expectedAnd}
-use Rattle.rules.specs.Cut.{comment, token, fails}
+use Rattle.rules.specs.Cut.{comment, fails}
 use Rattle.cut.specs.Cuts.{commentOr}
 use Rattle.spelling.specs.Signs.{codeCut}
 use Rattle.spelling.proofs.SignLaws.{code-cut}
+use Rattle.cut.proofs.Words.{code-token}
 use Rattle.cut.proofs.sign_or_comment.Statement.{statement}
 use Rattle.cut.proofs.sign_or_comment.Tie as tie
 
--- what a code cuts
-cut-token : (c : ℕ) → 1 < c → token (c % 128) (c / 128 + 1) ≡ codeCut c
-unfolding codeCut
-cut-token c h = sym (rw (ne-eqb c 0 (λ e. omega arith), ne-eqb c 1 (λ e. omega arith), sym (add-one (c / 128))) refl)
-
+-- what the other codes cut
 cut-comment : comment ≡ codeCut 1
 unfolding codeCut
 cut-comment = refl
@@ -43,7 +37,7 @@ add-size : tie.Need-add-size
 add-size c = search needs
 
 returns : tie.Need-returns
-returns c = cut-token (c .before .sign-code .result) (c .if1 .taken) ∙ by-code (c .before)
+returns c = code-token (c .before .sign-code .result) (c .if1 .taken) ∙ by-code (c .before)
 
 returns-2 : tie.Need-returns-2
 returns-2 c = cut-comment ∙ ap codeCut (sym (c .if2 .taken)) ∙ by-code (c .before .before)

@@ -2,38 +2,103 @@
 -- Assumes nothing.
 use Prim.Native.Nat.{ℕ, _+_, _*_, _≤_}
 use mathlib.Core.Path.{_≡_, refl, sym, ap, subst, _∙_}
-use mathlib.Core.List.{List}
+use mathlib.Core.List.{List, []}
 use native.Mathlib.Omega.{arith}
 use borrow.Author.Needs.{needs}
-use lib.ListN.{length}
+use lib.ListN.{length, take}
 use Rattle.rules.specs.Failure.{failure, badIndent}
-use Rattle.rules.specs.Line.{Token, LineReply, failed, cutsFrom}
+use Rattle.rules.specs.Lists.{run}
+use Rattle.rules.specs.Line.{State, Token, Levels, levels, LineReply, lineHalts, Halt, failed, isSpace, cutsFrom, levelsOf, readLine}
 use Rattle.rules.specs.Records.{tokenWords}
+use Rattle.spelling.proofs.ReachLaws.{run-spaces}
 use Rattle.laws.specs.Puts.{putIf}
 use Rattle.laws.proofs.Puts.{putIf-none}
-use Rattle.line.specs.States.{stateOf, Within}
+use Rattle.line.specs.States.{stateOf, leading, Within}
 use Rattle.line.specs.LineCuts.{lineCutsOf, tokensIn, counted, countedHalts}
+use Rattle.line.specs.declared.Lead.{Lead}
 use Rattle.line.proofs.Whole.{read-unequal, read-deep, levels-known, line-counted, line-tokens, line-room, levels-within}
 use Rattle.line.proofs.read_line.Statement.{statement}
 use Rattle.line.proofs.read_line.Tie as tie
 
+-- What the function was called with.
+module _ (s : tie.Start) where
+  abbrev line : List ℕ
+  line = s .args .line .now
+
+  abbrev state : State
+  state = stateOf (s .args .s) (s .args .widths .now)
+
+  -- a line that does not read writes no tokens
+  no-tokens : (h : Halt) → readLine 16 state line ≡ lineHalts h
+      → s .args .tokens .now ≡ putIf (s .args .write) (s .args .tokens .now) (5 * s .args .k) (tokenWords (s .args .position) (s .args .number) (tokensIn (readLine 16 state line)))
+  unfolding tokenWords
+  no-tokens h e = rw e (sym (putIf-none (s .args .write) (s .args .tokens .now) (5 * s .args .k)))
+
+-- The leading spaces are counted.
+module _ (c : tie.After-run-end) where
+  abbrev called : tie.Start
+  called = c .before .before .before .before
+
+  spaces-are : c .run-end .result ≡ run isSpace (line called)
+  spaces-are = omega (arith, c .run-end .ensures, run-spaces (line called))
+
+run-end-requires : tie.Need-run-end-requires
+run-end-requires c κs = (c .before .before .before .pre .1 .0, (omega arith, omega arith))
+
+-- The levels are compared.
+module _ (v : tie.After-levels-of) where
+  abbrev start : tie.Start
+  start = called (v .before .before)
+
+-- The levels are known.
+module _ (k : tie.After-known-told) where
+  abbrev compared : tie.After-levels-of
+  compared = k .before .before .before .before .before
+
+  abbrev lead : Lead
+  lead = k .before .lead .given .0 .0
+
+  levels-are : levelsOf 16 (state (start compared)) (line (start compared)) ≡ levels (leading lead) (take (lead .levels) (compared .levels-of .last .1 .1 .1 .0))
+  levels-are = levels-known (state (start compared)) (line (start compared)) _ lead _ (compared .levels-of .ensures .0) (k .before .lead .given .1)
+
+  within : (lead .levels ≤ 16) × (lead .closes ≤ 16)
+  within = subst Within (k .before .lead .given .1) (compared .levels-of .ensures .1 .0)
+
 levels-of-requires : tie.Need-levels-of-requires
 levels-of-requires c κs =
-    let q = c .before .before .before .before .pre .1 .1 .1 .1 .1 in
-    (omega (arith, q .0 .0), q .1 .0 .0, q .1 .0 .1)
+    let q = called (c .before) .pre .1 .1 .1 .1 .1 in
+    ((omega (arith, q .0 .0), q .1 .0 .0, q .1 .0 .1), spaces-are (c .before))
 
 enum-known-lead : tie.Need-enum-known-lead
 enum-known-lead c = search needs
 
 cut-after-requires : tie.Need-cut-after-requires
 cut-after-requires c κs =
-    let a = c .before .before .before .before .before .before .before .before .before .before .before .args in
-    let p = c .before .before .before .before .before .before .before .before .before .before .before .pre in
-    let q = p .1 .1 .1 .1 .1 in
-    let lead = c .before .before .lead .given .0 .0 in
-    let e = levels-known (stateOf (a .s) (a .widths .now)) (a .line .now) _ lead _ (c .before .before .before .before .before .before .levels-of .ensures .0) (c .before .before .lead .given .1) in
-    let within : (lead .levels ≤ 16) × (lead .closes ≤ 16) = subst Within (c .before .before .lead .given .1) (c .before .before .before .before .before .before .levels-of .ensures .1 .0) in
-    (p .0, (p .1 .0, (p .1 .1 .0, (p .1 .1 .1 .0, (p .1 .1 .1 .1 .0, (q .0, (within .1, λ w. line-room (stateOf (a .s) (a .widths .now)) (a .line .now) lead _ e (a .k) (length (a .tokens .now)) (q .1 .1 w))))))))
+    let k = c .before in
+    let s = start (compared k) in
+    let p = s .pre in
+    let q = p .1 .1 .1 .1 .1 in (
+      p .0,
+      (
+        p .1 .0,
+        (
+          p .1 .1 .0,
+          (
+            p .1 .1 .1 .0,
+            (
+              p .1 .1 .1 .1 .0,
+              (
+                q .0,
+                (
+                  (within k .1, spaces-are (compared k .before .before)),
+                  λ w. line-room (state s) (line s) (lead k) _ (levels-are k) (s .args .k) (length (s .args .tokens .now)) (q .1 .1 w),
+                ),
+              ),
+            ),
+          ),
+        ),
+      ),
+    )
 
 enum-told : tie.Need-enum-told
 enum-told c = search needs
@@ -52,18 +117,16 @@ same-length-2 c = search needs
 
 returns : tie.Need-returns
 returns c =
-    let a = c .before .before .before .before .before .before .before .before .before .before .before .before .before .before .args in
-    let p = c .before .before .before .before .before .before .before .before .before .before .before .before .before .before .pre in
-    let q = p .1 .1 .1 .1 .1 in
-    let lead = c .before .before .before .before .before .lead .given .0 .0 in
-    let e = levels-known (stateOf (a .s) (a .widths .now)) (a .line .now) _ lead _ (c .before .before .before .before .before .before .before .before .before .levels-of .ensures .0) (c .before .before .before .before .before .lead .given .1) in
-    let within : (lead .levels ≤ 16) × (lead .closes ≤ 16) = subst Within (c .before .before .before .before .before .lead .given .1) (c .before .before .before .before .before .before .before .before .before .levels-of .ensures .1 .0) in (
-      line-counted (stateOf (a .s) (a .widths .now)) (a .line .now) lead _ e _ (c .before .before .cut-after .ensures .0),
+    let x = c .before .before in
+    let k = x .before .before in
+    let s = start (compared k) in
+    let a = s .args in (
+      line-counted (state s) (line s) (lead k) _ (levels-are k) _ (x .cut-after .ensures .0),
       (
-        levels-within lead (lineCutsOf (a .s .depth) (cutsFrom 0 0 (a .line .now))) _ (c .before .before .cut-after .ensures .0) (within .0),
+        levels-within (lead k) (lineCutsOf (a .s .depth) (cutsFrom 0 0 (line s))) _ (x .cut-after .ensures .0) (within k .0),
         (
-          c .before .before .before .before .before .before .before .before .before .levels-of .ensures .1 .1,
-          c .before .before .cut-after .ensures .1 ∙ ap (λ (ts : List Token). putIf (a .write) (a .tokens .now) (5 * a .k) (tokenWords (a .position) (a .number) ts)) (line-tokens (stateOf (a .s) (a .widths .now)) (a .line .now) lead _ e),
+          compared k .levels-of .ensures .1 .1,
+          x .cut-after .ensures .1 ∙ ap (λ (ts : List Token). putIf (a .write) (a .tokens .now) (5 * a .k) (tokenWords (a .position) (a .number) ts)) (line-tokens (state s) (line s) (lead k) _ (levels-are k)),
         ),
       ),
     )
@@ -72,30 +135,27 @@ same-length-3 : tie.Need-same-length-3
 same-length-3 c = search needs
 
 returns-2 : tie.Need-returns-2
-unfolding tokenWords
 returns-2 c =
-    let a = c .before .before .before .before .before .before .before .before .before .before .args in
-    let e = read-unequal (stateOf (a .s) (a .widths .now)) (a .line .now) _ _ (c .before .before .before .before .before .levels-of .ensures .0) (c .before .enum-told .given .1) in (
-      ap (λ (n : ℕ). countedHalts (failed (failure badIndent 0 0 n))) (c .leading-indent-bytes .ensures) ∙ ap counted (sym e),
-      (tt, (c .before .before .before .before .before .levels-of .ensures .1 .1, sym (putIf-none (a .write) (a .tokens .now) (5 * a .k)) ∙ ap (λ (x : LineReply). putIf (a .write) (a .tokens .now) (5 * a .k) (tokenWords (a .position) (a .number) (tokensIn x))) (sym e))),
-    )
+    let v = c .before .before .before .before .before in
+    let s = start v in
+    let e = read-unequal (state s) (line s) _ _ (v .levels-of .ensures .0) (c .before .enum-told .given .1) in
+    (ap (λ (n : ℕ). countedHalts (failed (failure badIndent 0 0 n))) (c .leading-indent-bytes .ensures) ∙ ap counted (sym e), (tt, (v .levels-of .ensures .1 .1, no-tokens s _ e)))
 
 same-length-4 : tie.Need-same-length-4
 same-length-4 c = search needs
 
 returns-3 : tie.Need-returns-3
-unfolding tokenWords
 returns-3 c =
-    let a = c .before .before .before .before .before .before .before .before .before .args in
-    let e = read-deep (stateOf (a .s) (a .widths .now)) (a .line .now) _ _ (c .before .before .before .before .levels-of .ensures .0) (c .enum-told2 .given .1) in (
-      ap counted (sym e),
-      (tt, (c .before .before .before .before .levels-of .ensures .1 .1, sym (putIf-none (a .write) (a .tokens .now) (5 * a .k)) ∙ ap (λ (x : LineReply). putIf (a .write) (a .tokens .now) (5 * a .k) (tokenWords (a .position) (a .number) (tokensIn x))) (sym e))),
-    )
+    let v = c .before .before .before .before in
+    let s = start v in
+    let e = read-deep (state s) (line s) _ _ (v .levels-of .ensures .0) (c .enum-told2 .given .1) in
+    (ap counted (sym e), (tt, (v .levels-of .ensures .1 .1, no-tokens s _ e)))
 
 pub read-line-spec : {M : Type 1} → statement M
 read-line-spec =
     tie.close
     (tie.spec
+    run-end-requires
     levels-of-requires
     enum-known-lead
     cut-after-requires

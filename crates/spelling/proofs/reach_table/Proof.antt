@@ -1,13 +1,13 @@
 -- `spelling::reach_table` meets its contract: the bytes that are written out are those of the table, by computation.
 -- Assumes nothing.
 use mathlib.Core.Path.{refl}
-use Rattle.rules.specs.Cut.{cutRules}
+use Rattle.rules.specs.Line.{lineRules}
 use Rattle.spelling.specs.Bytes.{reachTable, reaches}
 use Rattle.spelling.proofs.reach_table.Statement.{statement}
 use Rattle.spelling.proofs.reach_table.Tie as tie
 
 returns : tie.Need-returns
-unfolding reachTable reaches cutRules
+unfolding reachTable reaches lineRules
 returns c = refl
 
 pub reach-table-spec : {M : Type 1} → statement M
