@@ -258,7 +258,7 @@ fn line_agrees(
     ensures { λ r. ⌜ LevelsWithin r ⌝ }
 {
     let depth = s.depth;
-    let spaces = spelling::run_end(reach, line, 0, 3);
+    let spaces = line::leading_spaces(reach, line);
     match line::levels_of(line, spaces, s, widths) {
         line::Compared::Levels(lead) => tokens_agree(
             class,

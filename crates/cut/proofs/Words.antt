@@ -13,8 +13,8 @@ use lib.Seq.{drop-cons}
 use borrow.Author.Tests.{leb-true, le-ltb, ne-eqb}
 use Rattle.rules.specs.Lists.{if_then_else_, within, ascii, elem, every, begins, run, same, trimEnd}
 use Rattle.rules.specs.Kinds.{Ident, Num}
-use Rattle.rules.specs.Tables.{Spelling, isCR, isHexDigit, blankClass, letterClass, digitClass, signClass, classOf, keywords, signs, wordKind, tableRules}
-use Rattle.rules.specs.Cut.{Cut, blank, token, inWord, wordCut, letterCut, Number, scanNumber, numberCut, stringEnd, stringCut, closingCut, lowDigitCut, highDigitCut, escapeCut, contentCut, byteCut, signCut, cutBy, cut}
+use Rattle.rules.specs.Tables.{Spelling, isCR, isHexDigit, blankClass, hashClass, letterClass, digitClass, signClass, classOf, keywords, signs, wordKind, tableRules}
+use Rattle.rules.specs.Cut.{Cut, blank, comment, token, inWord, wordCut, letterCut, Number, scanNumber, numberCut, stringEnd, stringCut, closingCut, lowDigitCut, highDigitCut, escapeCut, contentCut, byteCut, signCut, cutBy, cut}
 use Rattle.rules.proofs.ListLaws.{if-by, and-true}
 use Rattle.spelling.specs.Bytes.{reaches}
 use Rattle.spelling.specs.Signs.{signCode, codeCut}
@@ -163,3 +163,7 @@ module _ (w : Bool) (line : List ℕ) (at : ℕ) (h : at < length line) where
 pub blank-cut : (line : List ℕ) (at : ℕ) → at < length line → classOf (getD line at 0) ≡ blankClass → cut (drop at line) ≡ blank
 unfolding cutBy
 blank-cut line at h e = sym (in-class true line at h blankClass e)
+
+pub hash-cut : (line : List ℕ) (at : ℕ) → at < length line → classOf (getD line at 0) ≡ hashClass → cut (drop at line) ≡ comment
+unfolding cutBy
+hash-cut line at h e = sym (in-class true line at h hashClass e)

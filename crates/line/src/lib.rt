@@ -113,6 +113,20 @@ fn blank_end(line: &[u8]) -> usize
     i
 }
 
+// The spaces at a line's start; most lines have none, and then no run is looked for.
+pub fn leading_spaces(reach: &[u8; 1024], line: &[u8]) -> usize
+    requires { ⌜ now reach ≡ reachTable ⌝ }
+    ensures { λ r. ⌜ r ≡ run isSpace (now (line .entry)) ⌝ }
+{
+    if line.len() == 0 {
+        return 0;
+    }
+    if line[0] != 32 {
+        return 0;
+    }
+    spelling::run_end(reach, line, 0, 3)
+}
+
 // At `at` the line ends or a comment begins.
 fn ends_at(line: &[u8], at: usize) -> bool
     requires { ⌜ at ≤ length (now line) ⌝ }
@@ -429,8 +443,8 @@ fn is_word(c: u8, line: &[u8], at: usize) -> bool
     !cut::begins_literal(line, at)
 }
 
-// The tokens of a line that begins with so many spaces. Words, numbers and signs are cut in the loop itself, the others are called for. A
-// pass that does not write asks for no kinds of words.
+// The tokens of a line that begins with so many spaces. Words, numbers, signs and `#` are told in the loop itself, the others are called
+// for. A pass that does not write asks for no kinds of words.
 fn cut_line(
     class: &[u8; 256],
     reach: &[u8; 1024],
@@ -461,6 +475,9 @@ fn cut_line(
         if c == 0 {
             t = past_blank(t);
             continue;
+        }
+        if c == 1 {
+            return LineCuts::Ends(t.n, t.open, t.arrow);
         }
         if is_word(c, line, at) {
             let end = spelling::run_end(reach, line, at, 0);
@@ -632,7 +649,7 @@ pub fn read_line(
     ensures { λ _. ⌜ now (tokens .exit) ≡ putIf write (now (tokens .entry)) (5 * k) (tokenWords position number (tokensIn (readLine 16 (stateOf s (now (widths .entry))) (now (line .entry))))) ⌝ }
 {
     let depth = s.depth;
-    let spaces = spelling::run_end(reach, line, 0, 3);
+    let spaces = leading_spaces(reach, line);
     let place = Place {
         write: write,
         first: k,

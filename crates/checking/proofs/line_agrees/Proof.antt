@@ -7,7 +7,6 @@ use native.Mathlib.Omega.{arith}
 use lib.ListN.{take}
 use Rattle.rules.specs.Failure.{failure, badIndent}
 use Rattle.rules.specs.Line.{State, levels, failed, overLimit, indentSize, cutsFrom, levelsOf}
-use Rattle.spelling.proofs.ReachLaws.{run-spaces}
 use Rattle.line.specs.States.{stateOf, leading, Within}
 use Rattle.line.specs.LineCuts.{lineCutsOf}
 use Rattle.line.specs.declared.Lead.{Lead}
@@ -43,15 +42,15 @@ module _ (k : tie.After-known-told) where
   within : (lead .levels ≤ 16) × (lead .closes ≤ 16)
   within = subst Within (k .before .lead .given .1) (compared .levels-of .ensures .1 .0)
 
-run-end-requires : tie.Need-run-end-requires
-run-end-requires c κs = (c .before .before .before .pre .1 .0, (omega arith, omega arith))
+leading-spaces-requires : tie.Need-leading-spaces-requires
+leading-spaces-requires c κs = c .before .before .before .pre .1 .0
 
 levels-of-requires : tie.Need-levels-of-requires
 levels-of-requires c κs =
     let r = c .before in
     let s = r .before .before .before .before in
     let q = s .pre .1 .1 .1 .1 .1 in
-    ((omega (arith, q .0 .0), q .1 .0, q .1 .1), omega (arith, r .run-end .ensures, run-spaces (line s)))
+    ((omega (arith, q .0 .0), q .1 .0, q .1 .1), r .leading-spaces .ensures)
 
 enum-known-lead : tie.Need-enum-known-lead
 enum-known-lead c = search needs
@@ -101,7 +100,7 @@ pub line-agrees-spec : {M : Type 1} → statement M
 line-agrees-spec =
     tie.close
     (tie.spec
-    run-end-requires
+    leading-spaces-requires
     levels-of-requires
     enum-known-lead
     tokens-agree-requires

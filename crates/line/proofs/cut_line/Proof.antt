@@ -18,7 +18,7 @@ use Rattle.spelling.specs.Bytes.{reaches}
 use Rattle.spelling.proofs.ReachLaws.{run-inside}
 use Rattle.cut.specs.declared.Cut.{Cut}
 use Rattle.cut.specs.Cuts.{cutOf, failureOf, numberOf, cutNamed}
-use Rattle.cut.proofs.Words.{blank-cut, word-token, number-token, sign-token}
+use Rattle.cut.proofs.Words.{blank-cut, hash-cut, word-token, number-token, sign-token}
 use Rattle.cut.proofs.Plain.{named-blank, named-comment, named-fails}
 use Rattle.line.specs.LineCuts.{tokenPast}
 use Rattle.line.specs.declared.Place.{Place}
@@ -76,13 +76,13 @@ module _ (l : tie.Then1 Inv-loop μ-loop) where
 abbrev turn : tie.After-class-of Inv-loop μ-loop → tie.Then1 Inv-loop μ-loop
 turn b = b .before .before
 
-abbrev no-word : tie.Else3 Inv-loop μ-loop → tie.After-class-of Inv-loop μ-loop
-no-word e = e .before .before .before
+abbrev no-word : tie.Else4 Inv-loop μ-loop → tie.After-class-of Inv-loop μ-loop
+no-word e = e .before .before .before .before
 
 -- The word at hand, from the cursor to `end`.
 module _ (e : tie.After-run-end Inv-loop μ-loop) where
   abbrev byte : tie.After-class-of Inv-loop μ-loop
-  byte = e .before .before .before .before
+  byte = e .before .before .before .before .before
 
   abbrev end : ℕ
   end = e .run-end .result
@@ -96,7 +96,7 @@ module _ (e : tie.After-run-end Inv-loop μ-loop) where
   is-letter =
       let l = turn byte in
       let c = byte .class-of .result in
-      let both = word-begins (eqb c letterClass) (begins (ascii "b'") (drop (t l .at) (line l))) (sym (e .before .before .is-word .ensures) ∙ e .before .if3 .taken) in
+      let both = word-begins (eqb c letterClass) (begins (ascii "b'") (drop (t l .at) (line l))) (sym (e .before .before .is-word .ensures) ∙ e .before .if4 .taken) in
       (sym (byte .class-of .ensures) ∙ eqb-true c letterClass (both .0), both .1)
 
 module _ (w : tie.After-kind-of-word Inv-loop μ-loop) where
@@ -120,10 +120,10 @@ module _ (n : tie.After-scan-number Inv-loop μ-loop) where
   number =
       let l = turn digit in
       token-at (place l .write) (line l) (t l .at) 46 (n .scan-number .result .digits + n .scan-number .result .suffix) (more l)
-      (number-token (place l .write) (line l) (t l .at) (more l) (sym (digit .class-of .ensures) ∙ n .before .if4 .taken) (numberOf (n .scan-number .result)) (n .scan-number .ensures))
+      (number-token (place l .write) (line l) (t l .at) (more l) (sym (digit .class-of .ensures) ∙ n .before .if5 .taken) (numberOf (n .scan-number .result)) (n .scan-number .ensures))
 
 -- The sign at hand.
-module _ (s : tie.Then6 Inv-loop μ-loop) where
+module _ (s : tie.Then7 Inv-loop μ-loop) where
   abbrev first-byte : tie.After-class-of Inv-loop μ-loop
   first-byte = no-word (s .before .before .before .before)
 
@@ -134,7 +134,7 @@ module _ (s : tie.Then6 Inv-loop μ-loop) where
   sign =
       let l = turn first-byte in
       token-at (place l .write) (line l) (t l .at) (code % 128) (code / 128 + 1) (more l)
-      (sign-token (place l .write) (line l) (t l .at) (more l) (sym (first-byte .class-of .ensures) ∙ s .before .before .if5 .taken) code (s .before .sign-code .ensures) (s .if6 .taken))
+      (sign-token (place l .write) (line l) (t l .at) (more l) (sym (first-byte .class-of .ensures) ∙ s .before .before .if6 .taken) code (s .before .sign-code .ensures) (s .if7 .taken))
 
 -- The cut at hand.
 module _ (n : tie.After-cut-by-class Inv-loop μ-loop) where
@@ -200,12 +200,21 @@ loop-again c =
     let l = turn b in
     past-blank (so-far l) (more l) (blank-cut (line l) (t l .at) (more l) (sym (b .class-of .ensures) ∙ c .before .if2 .taken)) _ (c .past-blank .ensures)
 
+same-length : tie.Need-same-length Inv-loop μ-loop
+same-length c = same-tokens (so-far (turn (c .before .before)))
+
+returns : tie.Need-returns Inv-loop μ-loop
+returns c =
+    let b = c .before .before in
+    let l = turn b in
+    ended (so-far l) (at-comment (so-far l) (more l) (hash-cut (line l) (t l .at) (more l) (sym (b .class-of .ensures) ∙ c .if3 .taken)))
+
 is-word-requires : tie.Need-is-word-requires Inv-loop μ-loop
-is-word-requires c κs = more (turn (c .before))
+is-word-requires c κs = more (turn (c .before .before))
 
 run-end-requires : tie.Need-run-end-requires Inv-loop μ-loop
 run-end-requires c κs =
-    let l = turn (c .before .before .before) in
+    let l = turn (c .before .before .before .before) in
     (called l .pre .1 .0, (so-far l .inside, omega arith))
 
 kind-of-word-requires : tie.Need-kind-of-word-requires Inv-loop μ-loop
@@ -261,7 +270,7 @@ sign-code-requires c κs =
 past-sign-requires : tie.Need-past-sign-requires Inv-loop μ-loop
 past-sign-requires c κs = may-pass (turn (first-byte (c .before))) (sign (c .before))
 
-abbrev sign-of : tie.After-slice-known4 Inv-loop μ-loop → tie.Then6 Inv-loop μ-loop
+abbrev sign-of : tie.After-slice-known4 Inv-loop μ-loop → tie.Then7 Inv-loop μ-loop
 sign-of c = c .before .before .before .before
 
 loop-less-4 : tie.Need-loop-less-4 Inv-loop μ-loop
@@ -297,11 +306,11 @@ loop-again-5 c =
 enum-told-2 : tie.Need-enum-told-2 Inv-loop μ-loop
 enum-told-2 c = search needs
 
-same-length : tie.Need-same-length Inv-loop μ-loop
-same-length c = same-tokens (so-far (at-cut (c .before .before)))
+same-length-2 : tie.Need-same-length-2 Inv-loop μ-loop
+same-length-2 c = same-tokens (so-far (at-cut (c .before .before)))
 
-returns : tie.Need-returns Inv-loop μ-loop
-returns c =
+returns-2 : tie.Need-returns-2 Inv-loop μ-loop
+returns-2 c =
     let n = c .before .before in
     let l = at-cut n in
     ended (so-far l) (at-comment (so-far l) (more l) (named-comment (place l .write) _ (cut-is n _ (c .enum-told2 .given .1))))
@@ -332,21 +341,21 @@ moved-by-requires c κs =
     let l = at-cut (cut-at c) in
     omega (arith, far l .0, failure-at (line l) (t l .at) (failure c) (more l) (fails-at c))
 
-same-length-2 : tie.Need-same-length-2 Inv-loop μ-loop
-same-length-2 c = same-tokens (so-far (at-cut (cut-at (c .before))))
+same-length-3 : tie.Need-same-length-3 Inv-loop μ-loop
+same-length-3 c = same-tokens (so-far (at-cut (cut-at (c .before))))
 
-returns-2 : tie.Need-returns-2 Inv-loop μ-loop
-returns-2 c =
+returns-3 : tie.Need-returns-3 Inv-loop μ-loop
+returns-3 c =
     let f = c .before in
     let l = at-cut (cut-at f) in
     let s = stopped (so-far l) (movedBy (t l .at) (failure f)) _ (at-failure (so-far l) (more l) (failure f) (fails-at f)) (called l .pre .1 .1 .1 .1 .1 .1 .1) in
     (ap Stops (c .moved-by .ensures) ∙ s .0, s .1)
 
-same-length-3 : tie.Need-same-length-3 Inv-loop μ-loop
-same-length-3 c = same-tokens (c .before .before .loop .inv)
+same-length-4 : tie.Need-same-length-4 Inv-loop μ-loop
+same-length-4 c = same-tokens (c .before .before .loop .inv)
 
-returns-3 : tie.Need-returns-3 Inv-loop μ-loop
-returns-3 c =
+returns-4 : tie.Need-returns-4 Inv-loop μ-loop
+returns-4 c =
     let v = c .before .before .loop .inv in
     ended v (at-end v (c .if1 .left))
 
@@ -363,6 +372,8 @@ cut-line-spec =
     past-blank-requires
     loop-less
     loop-again
+    same-length
+    returns
     is-word-requires
     run-end-requires
     kind-of-word-requires
@@ -385,15 +396,15 @@ cut-line-spec =
     loop-less-5
     loop-again-5
     enum-told-2
-    same-length
-    returns
+    same-length-2
+    returns-2
     enum-known-kind
     past-token-requires-3
     loop-less-6
     loop-again-6
     enum-known-f
     moved-by-requires
-    same-length-2
-    returns-2
     same-length-3
-    returns-3)
+    returns-3
+    same-length-4
+    returns-4)

@@ -7,10 +7,8 @@ use native.Mathlib.Omega.{arith}
 use borrow.Author.Needs.{needs}
 use lib.ListN.{length, take}
 use Rattle.rules.specs.Failure.{failure, badIndent}
-use Rattle.rules.specs.Lists.{run}
-use Rattle.rules.specs.Line.{State, Token, Levels, levels, LineReply, lineHalts, Halt, failed, isSpace, cutsFrom, levelsOf, readLine}
+use Rattle.rules.specs.Line.{State, Token, Levels, levels, LineReply, lineHalts, Halt, failed, cutsFrom, levelsOf, readLine}
 use Rattle.rules.specs.Records.{tokenWords}
-use Rattle.spelling.proofs.ReachLaws.{run-spaces}
 use Rattle.laws.specs.Puts.{putIf}
 use Rattle.laws.proofs.Puts.{putIf-none}
 use Rattle.line.specs.States.{stateOf, leading, Within}
@@ -34,16 +32,11 @@ module _ (s : tie.Start) where
   unfolding tokenWords
   no-tokens h e = rw e (sym (putIf-none (s .args .write) (s .args .tokens .now) (5 * s .args .k)))
 
--- The leading spaces are counted.
-module _ (c : tie.After-run-end) where
-  abbrev called : tie.Start
-  called = c .before .before .before .before
+abbrev called : tie.After-leading-spaces → tie.Start
+called c = c .before .before .before .before
 
-  spaces-are : c .run-end .result ≡ run isSpace (line called)
-  spaces-are = omega (arith, c .run-end .ensures, run-spaces (line called))
-
-run-end-requires : tie.Need-run-end-requires
-run-end-requires c κs = (c .before .before .before .pre .1 .0, (omega arith, omega arith))
+leading-spaces-requires : tie.Need-leading-spaces-requires
+leading-spaces-requires c κs = c .before .before .before .pre .1 .0
 
 -- The levels are compared.
 module _ (v : tie.After-levels-of) where
@@ -67,7 +60,7 @@ module _ (k : tie.After-known-told) where
 levels-of-requires : tie.Need-levels-of-requires
 levels-of-requires c κs =
     let q = called (c .before) .pre .1 .1 .1 .1 .1 in
-    ((omega (arith, q .0 .0), q .1 .0 .0, q .1 .0 .1), spaces-are (c .before))
+    ((omega (arith, q .0 .0), q .1 .0 .0, q .1 .0 .1), c .before .leading-spaces .ensures)
 
 enum-known-lead : tie.Need-enum-known-lead
 enum-known-lead c = search needs
@@ -90,7 +83,7 @@ cut-after-requires c κs =
               (
                 q .0,
                 (
-                  (within k .1, spaces-are (compared k .before .before)),
+                  (within k .1, compared k .before .before .leading-spaces .ensures),
                   λ w. line-room (state s) (line s) (lead k) _ (levels-are k) (s .args .k) (length (s .args .tokens .now)) (q .1 .1 w),
                 ),
               ),
@@ -155,7 +148,7 @@ pub read-line-spec : {M : Type 1} → statement M
 read-line-spec =
     tie.close
     (tie.spec
-    run-end-requires
+    leading-spaces-requires
     levels-of-requires
     enum-known-lead
     cut-after-requires
