@@ -286,7 +286,7 @@ fn past_answer(
     let o = from_fresh(edits, bytes, text, spare, lines, tokens);
     let last = o.last;
     let mut reply: [u64; 16] = [replay::FILL; 16];
-    let count = lexpage::put_edit(&mut reply, last);
+    let count = page_replies::put_edit(&mut reply, last);
     let p = replay::past_reply(line, h.at, &reply, count);
     let q = replay::past_number(line, p, digest(text, spare, lines, tokens));
     with_header(h, o, &reply, q)

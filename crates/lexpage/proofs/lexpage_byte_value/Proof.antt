@@ -1,7 +1,7 @@
 -- `lexpage::lexpage_byte_value` meets its contract.
 -- Assumes nothing.
 use mathlib.Core.Path.{_≡_}
-use Rattle.lexpage.proofs.Replies.{told-as}
+use Rattle.replies.proofs.Replies.{told-as}
 use borrow.Author.Needs.{needs}
 use Rattle.lexpage.proofs.lexpage_byte_value.Statement.{statement}
 use Rattle.lexpage.proofs.lexpage_byte_value.Tie as tie

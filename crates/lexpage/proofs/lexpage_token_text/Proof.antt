@@ -1,6 +1,6 @@
 -- `lexpage::lexpage_token_text` meets its contract.
 -- Assumes nothing.
-use Rattle.lexpage.proofs.Replies.{told-as}
+use Rattle.replies.proofs.Replies.{told-as}
 use borrow.Author.Needs.{needs}
 use Rattle.lexpage.proofs.lexpage_token_text.Statement.{statement}
 use Rattle.lexpage.proofs.lexpage_token_text.Tie as tie

@@ -1,11 +1,11 @@
--- `lexpage::put_fresh` meets its contract.
+-- `page_replies::put_fresh` meets its contract.
 -- Assumes nothing.
 use mathlib.Core.Path.{sym, ap}
 use Rattle.page.specs.Answers.{freshNumbers}
-use Rattle.lexpage.proofs.Replies.{told-as}
+use Rattle.replies.proofs.Replies.{told-as}
 use borrow.Author.Needs.{needs}
-use Rattle.lexpage.proofs.put_fresh.Statement.{statement}
-use Rattle.lexpage.proofs.put_fresh.Tie as tie
+use Rattle.page_replies.proofs.put_fresh.Statement.{statement}
+use Rattle.page_replies.proofs.put_fresh.Tie as tie
 
 enum-told : tie.Need-enum-told
 enum-told c = search needs

@@ -1,11 +1,11 @@
--- `lexpage::put_check` meets its contract.
+-- `query_replies::put_check` meets its contract.
 -- Assumes nothing.
 use mathlib.Core.Path.{sym, ap}
 use Rattle.checking.specs.Answers.{checkNumbers}
-use Rattle.lexpage.proofs.Replies.{told-as}
+use Rattle.replies.proofs.Replies.{told-as}
 use borrow.Author.Needs.{needs}
-use Rattle.lexpage.proofs.put_check.Statement.{statement}
-use Rattle.lexpage.proofs.put_check.Tie as tie
+use Rattle.query_replies.proofs.put_check.Statement.{statement}
+use Rattle.query_replies.proofs.put_check.Tie as tie
 
 enum-told : tie.Need-enum-told
 enum-told c = search needs

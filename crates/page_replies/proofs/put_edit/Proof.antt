@@ -1,11 +1,11 @@
--- `lexpage::put_edit` meets its contract.
+-- `page_replies::put_edit` meets its contract.
 -- Assumes nothing.
 use mathlib.Core.Path.{sym, ap}
 use Rattle.page.specs.Answers.{editNumbers}
-use Rattle.lexpage.proofs.Replies.{told-as}
+use Rattle.replies.proofs.Replies.{told-as}
 use borrow.Author.Needs.{needs}
-use Rattle.lexpage.proofs.put_edit.Statement.{statement}
-use Rattle.lexpage.proofs.put_edit.Tie as tie
+use Rattle.page_replies.proofs.put_edit.Statement.{statement}
+use Rattle.page_replies.proofs.put_edit.Tie as tie
 
 enum-known-r : tie.Need-enum-known-r
 enum-known-r c = search needs

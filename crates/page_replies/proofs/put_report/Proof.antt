@@ -1,11 +1,11 @@
--- `lexpage::put_report` meets its contract.
+-- `page_replies::put_report` meets its contract.
 -- Assumes nothing.
 use mathlib.Core.Path.{_≡_, sym, ap, _∙_}
 use Rattle.report.specs.Answers.{reportNumbers}
-use Rattle.lexpage.proofs.Replies.{told-as}
+use Rattle.replies.proofs.Replies.{told-as}
 use borrow.Author.Needs.{needs}
-use Rattle.lexpage.proofs.put_report.Statement.{statement}
-use Rattle.lexpage.proofs.put_report.Tie as tie
+use Rattle.page_replies.proofs.put_report.Statement.{statement}
+use Rattle.page_replies.proofs.put_report.Tie as tie
 
 enum-known-r : tie.Need-enum-known-r
 enum-known-r c = search needs

@@ -1,0 +1,64 @@
+// Words at the front of a reply, and how many they are.
+ghost use mathlib.Core.Path.{_≡_};
+ghost use mathlib.Core.List.{[], _∷_};
+ghost use lib.Seq.{sets};
+ghost use Rattle.reading.specs.Answers.{failureNumbers};
+
+// One word.
+pub fn put_one(reply: &mut [u64; 16], a: u64) -> u64
+    ensures { λ r. ⌜ r ≡ 1 ⌝ }
+    ensures { λ _. ⌜ now (reply .exit) ≡ sets (now (reply .entry)) 0 (a ∷ []) ⌝ }
+{
+    reply[0] = a;
+    1
+}
+
+// Two words.
+pub fn put_two(reply: &mut [u64; 16], a: u64, b: u64) -> u64
+    ensures { λ r. ⌜ r ≡ 2 ⌝ }
+    ensures { λ _. ⌜ now (reply .exit) ≡ sets (now (reply .entry)) 0 (a ∷ b ∷ []) ⌝ }
+{
+    reply[0] = a;
+    reply[1] = b;
+    2
+}
+
+// Three words.
+pub fn put_three(reply: &mut [u64; 16], a: u64, b: u64, c: u64) -> u64
+    ensures { λ r. ⌜ r ≡ 3 ⌝ }
+    ensures { λ _. ⌜ now (reply .exit) ≡ sets (now (reply .entry)) 0 (a ∷ b ∷ c ∷ []) ⌝ }
+{
+    reply[0] = a;
+    reply[1] = b;
+    reply[2] = c;
+    3
+}
+
+// Four words.
+pub fn put_four(reply: &mut [u64; 16], a: u64, b: u64, c: u64, d: u64) -> u64
+    ensures { λ r. ⌜ r ≡ 4 ⌝ }
+    ensures { λ _. ⌜ now (reply .exit) ≡ sets (now (reply .entry)) 0 (a ∷ b ∷ c ∷ d ∷ []) ⌝ }
+{
+    reply[0] = a;
+    reply[1] = b;
+    reply[2] = c;
+    reply[3] = d;
+    4
+}
+
+// Refusal 3 with a failure's record.
+pub fn put_failure(reply: &mut [u64; 16], f: lines::FailureRecord) -> u64
+    ensures { λ r. ⌜ r ≡ 9 ⌝ }
+    ensures { λ _. ⌜ now (reply .exit) ≡ sets (now (reply .entry)) 0 (3 ∷ failureNumbers f) ⌝ }
+{
+    reply[0] = 3;
+    reply[1] = f.code as u64;
+    reply[2] = f.detail as u64;
+    reply[3] = f.found as u64;
+    reply[4] = f.position as u64;
+    reply[5] = f.line as u64;
+    reply[6] = f.column as u64;
+    reply[7] = f.from as u64;
+    reply[8] = f.to as u64;
+    9
+}
