@@ -1,5 +1,5 @@
-// A recorded list held against the code: a text with its answers on each line, in the format of oracle/README.md. A position in a case
-// is the end of the fields that agree so far, or MISMATCH, which lies past every case.
+// Fields of recorded lists, in the format of oracle/README.md, and how many of their lines agree with the code. A position in a line is the
+// end of the fields that agree so far, or MISMATCH, which lies past every line.
 ghost use mathlib.Core.Path.{_≡_};
 ghost use Prim.Native.Nat.{_+_, _≤_, _<_};
 ghost use lib.ListN.{length};
@@ -14,11 +14,24 @@ pub const FILL_WORD: u32 = 0xAAAA_AAAA;
 
 pub const FILL_BYTE: u8 = 0xAA;
 
+// The most bytes of a run.
+const MOST: u64 = 1_048_577;
+
 // How many cases agree, how many differ, and the number of the first that differs.
 pub struct Tally {
     pub passed: u64,
     pub failed: u64,
     pub first: u64,
+}
+
+// The lesser of two numbers.
+pub fn lesser(x: usize, y: usize) -> usize
+    ensures { λ r. ⌜ (r ≤ x) × (r ≤ y) ⌝ }
+{
+    if x < y {
+        return x;
+    }
+    y
 }
 
 // Numbers.
@@ -71,6 +84,14 @@ pub fn field_end(case: &[u8], from: usize) -> usize
     find(case, from, 32)
 }
 
+// Past the field after `at`.
+pub fn past_field(line: &[u8], at: usize) -> usize {
+    if line.len() <= at {
+        return MISMATCH;
+    }
+    field_end(line, at + 1)
+}
+
 // The number in the field after `at`.
 pub fn number_after(case: &[u8], at: usize) -> u64 {
     if case.len() <= at {
@@ -95,7 +116,7 @@ pub fn past_number(case: &[u8], at: usize, value: u64) -> usize {
 }
 
 // Past the field after `at`, where it spells a word that is counted; a word that is not counted must be as it was before the call.
-fn past_word(case: &[u8], at: usize, word: u64, counted: bool) -> usize {
+pub fn past_word(case: &[u8], at: usize, word: u64, counted: bool) -> usize {
     if counted {
         return past_number(case, at, word);
     }
@@ -116,22 +137,7 @@ pub fn past_reply(case: &[u8], at: usize, reply: &[u64; 16], count: u64) -> usiz
     p
 }
 
-// Past the group after `at`, where it spells the front of these words.
-fn past_words(case: &[u8], at: usize, words: &[u32]) -> usize {
-    let count = number_after(case, at);
-    if (words.len() as u64) < count {
-        return MISMATCH;
-    }
-    let mut p = past_number(case, at, count);
-    let mut i: usize = 0;
-    while i < words.len() {
-        p = past_word(case, p, words[i] as u64, (i as u64) < count);
-        i += 1;
-    }
-    p
-}
-
-// Bytes.
+// Bytes and words.
 
 // The value of a hex digit in lower case; 16 where the byte is none.
 fn hex_digit(b: u8) -> u8
@@ -188,103 +194,99 @@ pub fn spells(size: usize, n: usize) -> bool {
     size / 2 == n
 }
 
-// Calls.
-
-// Past the groups after `at`, where they spell the reply, the line words and the token words of a reading.
-fn past_reading(case: &[u8], at: usize, text: &[u8]) -> usize {
-    let mut lines: [u32; 2700] = [FILL_WORD; 2700];
-    let mut tokens: [u32; 2000] = [FILL_WORD; 2000];
-    let mut reply: [u64; 16] = [FILL; 16];
-    let count = lexpage::lexpage_read(text, &mut lines, &mut tokens, &mut reply);
-    let p = past_reply(case, at, &reply, count);
-    let q = past_words(case, p, &lines);
-    past_words(case, q, &tokens)
-}
-
-// A report's reply tells a message of this size, or else it is the reply that stands after `first`.
-fn told(case: &[u8], first: usize, reply: &[u64; 16], count: u64, size: usize) -> bool {
-    if reply[0] != 0 {
-        return past_reply(case, first, reply, count) != MISMATCH;
-    }
-    if reply[1] != size as u64 {
-        return false;
-    }
-    count == 2
-}
-
-// Past the field after `at`, where it spells the message of a text whose reply to a reading stands after `first`.
-fn past_message(case: &[u8], at: usize, first: usize, text: &[u8]) -> usize {
-    if case.len() <= at {
+// The byte at the front, so many times as the field spells: how many they are, or MISMATCH.
+fn put_repeated(field: &[u8], bytes: &mut [u8]) -> usize {
+    let count = number(field);
+    if !spelled(field, count) {
         return MISMATCH;
     }
-    let from = at + 1;
-    let end = field_end(case, from);
-    let mut wanted: [u8; 1500] = [FILL_BYTE; 1500];
-    let size = put_hex(&case[from..end], &mut wanted);
-    let mut out: [u8; 1500] = [FILL_BYTE; 1500];
-    let mut reply: [u64; 16] = [FILL; 16];
-    let count = lexpage::lexpage_report(text, &mut out, &mut reply);
-    if !spells(end - from, size) {
+    if MOST < count {
         return MISMATCH;
     }
-    if !check::same(&out, &wanted) {
+    if (bytes.len() as u64) < count {
         return MISMATCH;
     }
-    if !told(case, first, &reply, count, size) {
+    if bytes.len() == 0 {
         return MISMATCH;
     }
-    end
+    let b = bytes[0];
+    print::put_fill(bytes, true, 0, b, count as usize)
 }
 
-// Past the group after `at`, where it spells the value of a byte literal.
-fn past_value(case: &[u8], at: usize, text: &[u8]) -> usize {
-    let mut reply: [u64; 16] = [FILL; 16];
-    let count = lexpage::lexpage_byte_value(text, &mut reply);
-    past_reply(case, at, &reply, count)
-}
-
-// Past the group after `at`, where it spells the panel column of an offset.
-fn past_column(case: &[u8], at: usize, text: &[u8], offset: usize) -> usize {
-    let mut reply: [u64; 16] = [FILL; 16];
-    let count = lexpage::lexpage_panel_column(text, offset, &mut reply);
-    past_reply(case, at, &reply, count)
-}
-
-// Past the groups after `at`, where they spell the panel columns of the offsets 0 to n + 1.
-fn past_columns(case: &[u8], at: usize, text: &[u8]) -> usize
-    requires { ⌜ length (now text) ≤ 1_048_576 ⌝ }
-{
-    let mut p = at;
-    let mut offset: usize = 0;
-    while offset < text.len() + 2 {
-        p = past_column(case, p, text, offset);
-        offset += 1;
+// The bytes that a field spells, in hex or as one byte, `*` and how often it stands: how many they are, or MISMATCH.
+pub fn put_run(field: &[u8], bytes: &mut [u8]) -> usize {
+    let star = find(field, 0, 42);
+    let size = put_hex(&field[..star], bytes);
+    if !spells(star, size) {
+        return MISMATCH;
     }
-    p
-}
-
-// Cases.
-
-// The answers that stand after `at` are those of this text, and nothing stands after them.
-fn answers_agree(case: &[u8], at: usize, text: &[u8]) -> bool
-    requires { ⌜ length (now text) ≤ 1_048_576 ⌝ }
-{
-    let p = past_reading(case, at, text);
-    let q = past_message(case, p, at, text);
-    let r = past_value(case, q, text);
-    past_columns(case, r, text) == case.len()
-}
-
-// A case agrees with the code.
-fn agrees(case: &[u8]) -> bool {
-    let end = field_end(case, 0);
-    let mut text: [u8; 1024] = [0; 1024];
-    let size = put_hex(&case[0..end], &mut text);
-    if !spells(end, size) {
-        return false;
+    if star == field.len() {
+        return size;
     }
-    answers_agree(case, end, &text[..size])
+    if size != 1 {
+        return MISMATCH;
+    }
+    put_repeated(&field[star + 1..], bytes)
 }
+
+// Each word becomes this one.
+pub fn fill_words(words: &mut [u32], word: u32) {
+    let mut i: usize = 0;
+    while i < words.len() {
+        words[i] = word;
+        i += 1;
+    }
+}
+
+// Digests.
+
+// The digest of nothing, 64-bit FNV-1a.
+pub const NOTHING: u64 = 0xCBF2_9CE4_8422_2325;
+
+// The product with the prime of FNV-1a, 2^40 + 435, modulo 2^64.
+fn times_prime(x: u64) -> u64 {
+    let low = x % 4_294_967_296 * 435;
+    let high = x / 4_294_967_296 * 435 % 4_294_967_296 * 4_294_967_296;
+    let far = x % 16_777_216 * 1_099_511_627_776;
+    std::num::wrapping_add_u64(std::num::wrapping_add_u64(low, high), far)
+}
+
+// A digest with one byte more.
+fn with_byte(digest: u64, b: u8) -> u64 {
+    times_prime(digest ^ (b as u64))
+}
+
+// A digest with these bytes more.
+pub fn with_bytes(digest: u64, bytes: &[u8]) -> u64 {
+    let mut d = digest;
+    let mut i: usize = 0;
+    while i < bytes.len() {
+        d = with_byte(d, bytes[i]);
+        i += 1;
+    }
+    d
+}
+
+// A digest with one word more, lowest byte first.
+fn with_word(digest: u64, word: u32) -> u64 {
+    let first = with_byte(digest, (word % 256) as u8);
+    let second = with_byte(first, (word / 256 % 256) as u8);
+    let third = with_byte(second, (word / 65_536 % 256) as u8);
+    with_byte(third, (word / 16_777_216) as u8)
+}
+
+// A digest with these words more.
+pub fn with_words(digest: u64, words: &[u32]) -> u64 {
+    let mut d = digest;
+    let mut i: usize = 0;
+    while i < words.len() {
+        d = with_word(d, words[i]);
+        i += 1;
+    }
+    d
+}
+
+// Lists.
 
 // A tally with one case more.
 pub fn counted(t: Tally, good: bool) -> Tally
@@ -312,24 +314,6 @@ pub fn counted(t: Tally, good: bool) -> Tally
     }
 }
 
-// Every case of a list.
-pub fn replay(list: &[u8]) -> Tally
-    requires { ⌜ length (now list) ≤ 4_294_967_295 ⌝ }
-{
-    let mut t = Tally {
-        passed: 0,
-        failed: 0,
-        first: 0,
-    };
-    let mut at: usize = 0;
-    while at < list.len() {
-        let end = find(list, at, 10);
-        t = counted(t, agrees(&list[at..end]));
-        at = end + 1;
-    }
-    t
-}
-
 // A tally, its last line `N passed, M failed`.
 pub fn print_tally(t: Tally) {
     if t.failed != 0 {
@@ -344,15 +328,15 @@ pub fn print_tally(t: Tally) {
 }
 
 // Room for a list.
-fn list_buffer() -> [u8; 2_097_152]
-    ensures { λ r. ⌜ 2_097_152 ≡ length r ⌝ }
+pub fn list_buffer() -> [u8; 524_288]
+    ensures { λ r. ⌜ 524_288 ≡ length r ⌝ }
 {
-    [0; 2_097_152]
+    [0; 524_288]
 }
 
-// The list on standard input.
-pub fn replay_input() {
-    let mut list = list_buffer();
-    let size = io::read_full(0, &mut list);
-    print_tally(replay(&list[..size]));
+// Room for a text that is too long, and for the bytes of one page's edits.
+pub fn bytes_buffer() -> [u8; 1_049_600]
+    ensures { λ r. ⌜ 1_049_600 ≡ length r ⌝ }
+{
+    [0; 1_049_600]
 }

@@ -12,13 +12,14 @@ use std::collections::BTreeSet;
 use std::fs;
 use std::path::Path;
 
-/// Each list, and the program that replays it.
-const PROGRAMS: [(&str, &str); 4] = [
-    ("texts", "replay_texts"),
-    ("altered", "replay_altered"),
-    ("edits", "replay_edits"),
-    ("altered-edits", "replay_edits_altered"),
+/// The programs that replay the lists, each with the list on its standard input and the one in which answers were made wrong.
+const PROGRAMS: [(&str, [&str; 2]); 2] = [
+    ("replay_texts", ["texts", "altered"]),
+    ("replay_edits", ["edits", "altered-edits"]),
 ];
+
+/// Where a program has its two lists.
+const LISTS: [&str; 2] = ["stdin", "data/altered"];
 
 /// What a program writes about a list if it finds each wrong answer and no other.
 fn verdict(cases: &[Case]) -> String {
@@ -31,21 +32,23 @@ fn verdict(cases: &[Case]) -> String {
     format!("{first}{passed} passed, {failed} failed\n")
 }
 
-/// Each program's standard input is the list that `record` writes, and its standard output the verdict on it. Sought from
+/// Each program's lists are those that `record` writes, and its standard output the verdicts on them. Sought from
 /// the oracle's folder at the time of the run: a copied build must not look into another repository.
 fn check_files(tally: &mut Tally) {
-    for (list, program) in PROGRAMS {
+    for (program, lists) in PROGRAMS {
         let crates = Path::new("../crates");
         let held = |file| fs::read_to_string(crates.join(program).join(file)).unwrap_or_default();
-        let cases = recorded(list).unwrap_or_default();
-        let written: String = cases
-            .iter()
-            .map(|case| format!("{}\n", case.line))
-            .collect();
-        tally.expect(held("stdin") == written, || {
-            format!("crates/{program}/stdin is not what `oracle/record {list}` writes")
-        });
-        tally.equal(held("stdout"), verdict(&cases), program);
+        let mut verdicts = String::new();
+        for (list, file) in lists.into_iter().zip(LISTS) {
+            let cases = recorded(list).unwrap_or_default();
+            let lines = cases.iter().map(|case| format!("{}\n", case.line));
+            let written: String = lines.collect();
+            tally.expect(held(file) == written, || {
+                format!("crates/{program}/{file} is not what `oracle/record {list}` writes")
+            });
+            verdicts += &verdict(&cases);
+        }
+        tally.equal(held("stdout"), verdicts, program);
     }
 }
 
