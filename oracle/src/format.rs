@@ -1,14 +1,16 @@
 //! The line formats of recorded and generated cases; README.md lists their fields.
 
+use crate::call::Call;
 use crate::generate::calls::Calls;
 use crate::generate::edits::{Edit, History};
 use crate::generate::free::FreeEdit;
 use crate::generate::lists::{altered_histories, recorded_histories, recorded_texts, ALTERED};
+use crate::generate::single_calls::{altered_calls, single_calls};
 use crate::page::{byte_value, header_reply, message, panel_column, scan_output, walk_step, Page};
 use crate::reading::{fresh_reading, Reply};
 
 /// A byte string in lower-case hex, `-` when empty.
-fn hex(bytes: &[u8]) -> String {
+pub fn hex(bytes: &[u8]) -> String {
     if bytes.is_empty() {
         return "-".to_string();
     }
@@ -16,7 +18,7 @@ fn hex(bytes: &[u8]) -> String {
 }
 
 /// A group of numbers, preceded by their count.
-fn group<T: ToString>(numbers: &[T]) -> String {
+pub fn group<T: ToString>(numbers: &[T]) -> String {
     let mut fields = vec![numbers.len().to_string()];
     fields.extend(numbers.iter().map(T::to_string));
     fields.join(" ")
@@ -103,6 +105,22 @@ fn altered_edits(history: &History) -> Vec<Case> {
     cases
 }
 
+/// A call with its answers, as one line without its LF.
+fn single_call(call: &Call) -> String {
+    call.line(&call.answers())
+}
+
+/// A call once for every number that is recorded of it: there this number is another.
+fn altered_call(call: &Call) -> Vec<Case> {
+    let answers = call.answers();
+    let wrong = |number: usize| {
+        let mut wrong = answers.clone();
+        wrong[number] ^= 1;
+        Case::altered(call.line(&wrong))
+    };
+    (0..answers.len()).map(wrong).collect()
+}
+
 /// The recorded list of this name.
 pub fn recorded(list: &str) -> Option<Vec<Case>> {
     let all_true = |lines: Vec<String>| lines.into_iter().map(Case::true_to).collect();
@@ -115,20 +133,25 @@ pub fn recorded(list: &str) -> Option<Vec<Case>> {
             histories().iter().flat_map(history_cases).collect(),
         )),
         "altered-edits" => Some(altered_histories().iter().flat_map(altered_edits).collect()),
+        "calls" => Some(all_true(single_calls().iter().map(single_call).collect())),
+        "altered-calls" => Some(altered_calls().iter().flat_map(altered_call).collect()),
         _ => None,
     }
 }
 
-/// The 64-bit FNV-1a digest of text, spare, lines and tokens, words as four bytes, lowest first.
+/// The 64-bit FNV-1a digest of these bytes.
+pub fn digest_of(bytes: impl Iterator<Item = u8>) -> u64 {
+    bytes.fold(0xCBF2_9CE4_8422_2325, |hash, byte| {
+        (hash ^ u64::from(byte)).wrapping_mul(0x0000_0100_0000_01B3)
+    })
+}
+
+/// The digest of text, spare, lines and tokens, words as four bytes, lowest first.
 pub fn digest(page: &Page) -> u64 {
     let words = page.lines.iter().chain(&page.tokens);
     let words = words.flat_map(|word| word.to_le_bytes());
     let bytes = page.text.iter().chain(&page.spare).copied();
-    bytes
-        .chain(words)
-        .fold(0xCBF2_9CE4_8422_2325, |hash, byte| {
-            (hash ^ u64::from(byte)).wrapping_mul(0x0000_0100_0000_01B3)
-        })
+    digest_of(bytes.chain(words))
 }
 
 /// The most bytes of an edit that are spelled one by one.

@@ -2,6 +2,7 @@
 
 extern crate alloc;
 
+pub mod call;
 pub mod case;
 pub mod examples;
 pub mod format;

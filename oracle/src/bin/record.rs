@@ -14,7 +14,7 @@ fn write_lines(cases: &[Case]) -> io::Result<()> {
     out.flush()
 }
 
-/// record texts|altered|edits|altered-edits
+/// record texts|altered|edits|altered-edits|calls|altered-calls
 fn main() -> ExitCode {
     let arguments: Vec<String> = env::args().skip(1).collect();
     let lines = match &arguments[..] {
@@ -25,7 +25,7 @@ fn main() -> ExitCode {
         Some(Ok(())) => ExitCode::SUCCESS,
         Some(Err(_)) => ExitCode::FAILURE,
         None => {
-            eprintln!("usage: record texts|altered|edits|altered-edits");
+            eprintln!("usage: record texts|altered|edits|altered-edits|calls|altered-calls");
             ExitCode::from(2)
         }
     }

@@ -1,25 +1,41 @@
 //! The recorded lists that programs of the repository replay: what `record` writes now, and what it reaches.
 
 use crate::tally::Tally;
+use oracle::call::Call;
 use oracle::case::Case as AnyCase;
 use oracle::format::{recorded, Case};
 use oracle::generate::lists::{recorded_histories, recorded_texts};
+use oracle::generate::single_calls::{altered_calls, single_calls};
 use oracle::generate::Random;
 use oracle::kept::{kept, kept_lines, read_back};
 use oracle::page::walk_output;
 use oracle::reading::{fresh_reading, LAST_KIND, TOKEN_WORDS};
-use std::collections::BTreeSet;
+use std::collections::{BTreeMap, BTreeSet};
 use std::fs;
 use std::path::Path;
 
 /// The programs that replay the lists, each with the list on its standard input and the one in which answers were made wrong.
-const PROGRAMS: [(&str, [&str; 2]); 2] = [
+const PROGRAMS: [(&str, [&str; 2]); 3] = [
     ("replay_texts", ["texts", "altered"]),
     ("replay_edits", ["edits", "altered-edits"]),
+    ("replay_calls", ["calls", "altered-calls"]),
 ];
 
 /// Where a program has its two lists.
 const LISTS: [&str; 2] = ["stdin", "data/altered"];
+
+/// The first numbers of the replies that each function's recorded calls have, and with 5 the buffers.
+const REPLIES: [(&str, &[u64], &[u64]); 9] = [
+    ("byte_value", &[0, 1, 2], &[]),
+    ("check", &[0, 7], &[]),
+    ("edit", &[0, 1, 2, 3, 4, 5, 6, 7], &[1, 2, 3, 4]),
+    ("fresh", &[0, 5], &[3]),
+    ("panel_column", &[0, 1, 2, 6], &[]),
+    ("read", &[0, 1, 2, 3, 4, 5], &[3, 4]),
+    ("report", &[0, 1, 2, 4, 5], &[5]),
+    ("token_text", &[0, 5, 6, 7], &[6]),
+    ("walk_step", &[0], &[]),
+];
 
 /// What a program writes about a list if it finds each wrong answer and no other.
 fn verdict(cases: &[Case]) -> String {
@@ -98,6 +114,32 @@ fn check_edits(tally: &mut Tally) {
     tally.equal(buffers, (1..=4).collect(), "buffers of edits recorded");
 }
 
+/// "What comes first in a reply": those that a function can have are all among its recorded calls, and among those that are altered.
+fn check_calls(tally: &mut Tally) {
+    for calls in [single_calls(), altered_calls()] {
+        let mut reached: BTreeMap<&str, [BTreeSet<u64>; 2]> = BTreeMap::new();
+        for mut call in calls {
+            let [numbers, buffers] = reached.entry(call.name).or_default();
+            let reply = call.answer();
+            numbers.insert(reply[0]);
+            if let [5, buffer, _] = reply[..] {
+                buffers.insert(buffer);
+            }
+        }
+        let set = |numbers: &[u64]| numbers.iter().copied().collect::<BTreeSet<u64>>();
+        let all = REPLIES.map(|(name, numbers, buffers)| (name, [set(numbers), set(buffers)]));
+        tally.equal(reached, all.into(), "replies to calls recorded");
+    }
+}
+
+/// A call's line, by hand.
+fn check_call_line(tally: &mut Tally) {
+    let bytes = Call::of("f").number(7u64).bytes(b"ab").bytes(b"a########b");
+    let call = bytes.bytes(b"").words(&[1, 2, 2]).words(&[]);
+    let line = "f 1 7 3 6162 61,23*8,62 - 2 1,2*2 - 1 0";
+    tally.equal(call.line(&[1, 0]), line.to_string(), "a call's line");
+}
+
 /// The lines of the kept lists are those of the cases that they are read back as.
 fn check_kept(tally: &mut Tally) {
     for list in ["texts", "edits", "calls", "free"] {
@@ -129,4 +171,6 @@ pub fn check(tally: &mut Tally) {
     check_read_back(tally);
     check_reach(tally);
     check_edits(tally);
+    check_calls(tally);
+    check_call_line(tally);
 }
