@@ -1,13 +1,13 @@
 // The answers of a reading, of a report and of calls that change a page: the number and the values of each at the front of a reply, and
 // how many words they are.
 ghost use mathlib.Core.Path.{_≡_};
-ghost use mathlib.Core.List.{[], _∷_};
 ghost use lib.ListN.{length};
 ghost use lib.Seq.{sets};
 ghost use Rattle.reading.specs.Answers.{readNumbers};
 ghost use Rattle.report.specs.Answers.{reportNumbers};
 ghost use Rattle.page.specs.Answers.{freshNumbers, editNumbers};
 use replies::put_failure;
+use replies::put_five;
 use replies::put_four;
 use replies::put_one;
 use replies::put_three;
@@ -54,19 +54,6 @@ pub fn put_fresh(reply: &mut [u64; 16], r: page::FreshAnswer) -> u64
     }
 }
 
-// Acceptance of an edit: bytes, lines, tokens and the re-read count.
-fn put_edited(reply: &mut [u64; 16], n: u64, m: u64, k: u64, count: u64) -> u64
-    ensures { λ r. ⌜ r ≡ 5 ⌝ }
-    ensures { λ _. ⌜ now (reply .exit) ≡ sets (now (reply .entry)) 0 (0 ∷ n ∷ m ∷ k ∷ count ∷ []) ⌝ }
-{
-    reply[0] = 0;
-    reply[1] = n;
-    reply[2] = m;
-    reply[3] = k;
-    reply[4] = count;
-    5
-}
-
 // The answer of `edit`.
 pub fn put_edit(reply: &mut [u64; 16], r: page::EditAnswer) -> u64
     ensures { λ n. ⌜ n ≡ length (editNumbers r) ⌝ }
@@ -74,7 +61,7 @@ pub fn put_edit(reply: &mut [u64; 16], r: page::EditAnswer) -> u64
 {
     match r {
         page::EditAnswer::Edited(n, m, k, count) => {
-            put_edited(reply, n as u64, m as u64, k as u64, count as u64)
+            put_five(reply, 0, n as u64, m as u64, k as u64, count as u64)
         }
         page::EditAnswer::TooLong(n) => put_two(reply, 1, n as u64),
         page::EditAnswer::Malformed(n) => put_two(reply, 2, n as u64),

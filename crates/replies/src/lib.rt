@@ -46,6 +46,19 @@ pub fn put_four(reply: &mut [u64; 16], a: u64, b: u64, c: u64, d: u64) -> u64
     4
 }
 
+// Five words.
+pub fn put_five(reply: &mut [u64; 16], a: u64, b: u64, c: u64, d: u64, e: u64) -> u64
+    ensures { λ r. ⌜ r ≡ 5 ⌝ }
+    ensures { λ _. ⌜ now (reply .exit) ≡ sets (now (reply .entry)) 0 (a ∷ b ∷ c ∷ d ∷ e ∷ []) ⌝ }
+{
+    reply[0] = a;
+    reply[1] = b;
+    reply[2] = c;
+    reply[3] = d;
+    reply[4] = e;
+    5
+}
+
 // Refusal 3 with a failure's record.
 pub fn put_failure(reply: &mut [u64; 16], f: lines::FailureRecord) -> u64
     ensures { λ r. ⌜ r ≡ 9 ⌝ }

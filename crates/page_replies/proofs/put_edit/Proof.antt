@@ -10,8 +10,8 @@ use Rattle.page_replies.proofs.put_edit.Tie as tie
 enum-known-r : tie.Need-enum-known-r
 enum-known-r c = search needs
 
-put-edited-requires : tie.Need-put-edited-requires
-put-edited-requires c κs = search needs
+put-five-requires : tie.Need-put-five-requires
+put-five-requires c κs = search needs
 
 enum-known-r-2 : tie.Need-enum-known-r-2
 enum-known-r-2 c = search needs
@@ -74,7 +74,7 @@ put-one-requires-2 : tie.Need-put-one-requires-2
 put-one-requires-2 c κs = search needs
 
 returns : tie.Need-returns
-returns c = told-as _ _ _ _ _ (ap editNumbers (sym (c .before .before .before .r .given .1))) (c .put-edited .ensures)
+returns c = told-as _ _ _ _ _ (ap editNumbers (sym (c .before .before .before .r .given .1))) (c .put-five .ensures)
 
 returns-2 : tie.Need-returns-2
 returns-2 c = told-as _ _ _ _ _ (ap editNumbers (sym (c .before .before .before .r2 .given .1))) (c .put-two .ensures)
@@ -111,7 +111,7 @@ put-edit-spec =
     tie.close
     (tie.spec
     enum-known-r
-    put-edited-requires
+    put-five-requires
     enum-known-r-2
     put-two-requires
     enum-known-r-3
