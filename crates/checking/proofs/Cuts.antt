@@ -14,7 +14,7 @@ use Rattle.rules.specs.Kinds.{Implies}
 use Rattle.rules.specs.Failure.{Failure}
 use Rattle.rules.specs.Cut.{blank, comment, token, fails, cut}
 use Rattle.rules.specs.Line.{Token, tokenAt, Cuts, cuts, stops, withToken, movedBy, cutsFrom, depthAfter, arrowAfter}
-use Rattle.rules.specs.Records.{tokenWords}
+use Rattle.rules.specs.Records.{tokenSize, tokenWords}
 use Rattle.rules.proofs.CutLaws.{cuts-end, cuts-blank, cuts-comment, cuts-token, cuts-fails}
 use Rattle.line.specs.States.{depthBy}
 use Rattle.line.specs.LineCuts.{lineCutsOf, tokensOf}
@@ -41,14 +41,14 @@ one-more n d a t ts false = refl
 -- The line's tokens stand at byte p, in the line with this number, from record k on.
 module _ (p number k : ℕ) (tokens : List ℕ) where
   pub agree : (n : ℕ) → Cuts → Bool
-  agree n x = begins (tokenWords p number (tokensOf x)) (drop (5 * (k + n)) tokens)
+  agree n x = begins (tokenWords p number (tokensOf x)) (drop (tokenSize * (k + n)) tokens)
 
   abbrev rest : (n d : ℕ) → Bool → Cuts → SameCuts
   rest n d a x = moreCuts n d a (agree n x) x
 
-  all-left : (d : ℕ) (x : Cuts) → rest 0 d false x ≡ sameCutsIf (begins (tokenWords p number (tokensOf x)) (drop (5 * k) tokens)) (lineCutsOf d x)
+  all-left : (d : ℕ) (x : Cuts) → rest 0 d false x ≡ sameCutsIf (begins (tokenWords p number (tokensOf x)) (drop (tokenSize * k) tokens)) (lineCutsOf d x)
   unfolding agree
-  all-left d x = ap (λ (i : ℕ). moreCuts 0 d false (begins (tokenWords p number (tokensOf x)) (drop (5 * i) tokens)) x) (add-zero k) ∙ go _ x
+  all-left d x = ap (λ (i : ℕ). moreCuts 0 d false (begins (tokenWords p number (tokensOf x)) (drop (tokenSize * i) tokens)) x) (add-zero k) ∙ go _ x
     where
       go : (b : Bool) (y : Cuts) → moreCuts 0 d false b y ≡ sameCutsIf b (lineCutsOf d y)
       go true (cuts ts) = ap (λ (n : ℕ). Ends n (depthAfter d ts) (arrowAfter false ts)) (zero-add (length ts))
@@ -60,23 +60,23 @@ module _ (p number k : ℕ) (tokens : List ℕ) where
   none-left n d a = rw (no-tokens p number tokens (k + n)) (ap (λ (i : ℕ). Ends i d a) (add-zero n))
 
   module _ (n d : ℕ) (a : Bool) (t : Token) where
-    agree-then : (ts : List Token) → agree n (cuts (t ∷ ts)) ≡ (begins (oneToken p number t) (drop (5 * (k + n)) tokens) && agree (n + 1) (cuts ts))
+    agree-then : (ts : List Token) → agree n (cuts (t ∷ ts)) ≡ (begins (oneToken p number t) (drop (tokenSize * (k + n)) tokens) && agree (n + 1) (cuts ts))
     unfolding agree
     agree-then ts =
         let e : k + n + 1 ≡ k + (n + 1) = omega arith in
         token-then p number tokens (k + n) t ts
-        ∙ ap (λ (i : ℕ). begins (oneToken p number t) (drop (5 * (k + n)) tokens) && begins (tokenWords p number ts) (drop (5 * i) tokens)) e
+        ∙ ap (λ (i : ℕ). begins (oneToken p number t) (drop (tokenSize * (k + n)) tokens) && begins (tokenWords p number ts) (drop (tokenSize * i) tokens)) e
 
-    one-by : (b : Bool) → begins (oneToken p number t) (drop (5 * (k + n)) tokens) ≡ b → (ts : List Token) → rest n d a (cuts (t ∷ ts)) ≡ moreCuts n d a (b && agree (n + 1) (cuts ts)) (cuts (t ∷ ts))
+    one-by : (b : Bool) → begins (oneToken p number t) (drop (tokenSize * (k + n)) tokens) ≡ b → (ts : List Token) → rest n d a (cuts (t ∷ ts)) ≡ moreCuts n d a (b && agree (n + 1) (cuts ts)) (cuts (t ∷ ts))
     one-by b e ts = ap (λ (x : Bool). moreCuts n d a x (cuts (t ∷ ts))) (agree-then ts ∙ ap (λ (x : Bool). x && agree (n + 1) (cuts ts)) e)
 
-    one-agrees : begins (oneToken p number t) (drop (5 * (k + n)) tokens) ≡ true → (x : Cuts)
+    one-agrees : begins (oneToken p number t) (drop (tokenSize * (k + n)) tokens) ≡ true → (x : Cuts)
         → rest n d a (withToken t x) ≡ rest (n + 1) (depthBy d (t .kind)) (eqb (t .kind) Implies) x
     unfolding withToken
     one-agrees e (stops f) = refl
     one-agrees e (cuts ts) = one-by true e ts ∙ one-more n d a t ts (agree (n + 1) (cuts ts))
 
-    one-differs : begins (oneToken p number t) (drop (5 * (k + n)) tokens) ≡ false → (x : Cuts) → rest n d a (withToken t x) ≡ Differs
+    one-differs : begins (oneToken p number t) (drop (tokenSize * (k + n)) tokens) ≡ false → (x : Cuts) → rest n d a (withToken t x) ≡ Differs
     unfolding withToken
     one-differs e (stops f) = refl
     one-differs e (cuts ts) = one-by false e ts
@@ -84,7 +84,7 @@ module _ (p number k : ℕ) (tokens : List ℕ) where
   -- The loop, in a line before which the depth was d₀.
   module _ (l : List ℕ) (d₀ : ℕ) where
     abbrev answer : SameCuts
-    answer = sameCutsIf (begins (tokenWords p number (tokensOf (cutsFrom 0 0 l))) (drop (5 * k) tokens)) (lineCutsOf d₀ (cutsFrom 0 0 l))
+    answer = sameCutsIf (begins (tokenWords p number (tokensOf (cutsFrom 0 0 l))) (drop (tokenSize * k) tokens)) (lineCutsOf d₀ (cutsFrom 0 0 l))
 
     pub record SameTo (at n d : ℕ) (a : Bool) : Type 0 where
       pub inside : at ≤ length l
@@ -125,15 +125,15 @@ module _ {p number k : ℕ} {tokens l : List ℕ} {d₀ at n d : ℕ} {a : Bool}
       abbrev words : List ℕ
       words = kind ∷ (p + at) ∷ size ∷ number ∷ (at + 1) ∷ []
 
-      same-words : (b : Bool) → b ≡ begins words (drop (5 * (k + n)) tokens) → begins (oneToken p number (tokenAt kind at size)) (drop (5 * (k + n)) tokens) ≡ b
-      same-words b q = ap (λ (i : ℕ). begins (kind ∷ (p + at) ∷ size ∷ number ∷ i ∷ []) (drop (5 * (k + n)) tokens)) (sym (add-one at)) ∙ sym q
+      same-words : (b : Bool) → b ≡ begins words (drop (tokenSize * (k + n)) tokens) → begins (oneToken p number (tokenAt kind at size)) (drop (tokenSize * (k + n)) tokens) ≡ b
+      same-words b q = ap (λ (i : ℕ). begins (kind ∷ (p + at) ∷ size ∷ number ∷ i ∷ []) (drop (tokenSize * (k + n)) tokens)) (sym (add-one at)) ∙ sym q
 
-      pub other-token : false ≡ begins words (drop (5 * (k + n)) tokens) → Differs ≡ goal
+      pub other-token : false ≡ begins words (drop (tokenSize * (k + n)) tokens) → Differs ≡ goal
       other-token q =
           sym (one-differs p number k tokens n d a (tokenAt kind at size) (same-words false q) (cutsFrom (at + size) 0 (drop (at + size) l)))
           ∙ left-as (withToken (tokenAt kind at size) (cutsFrom (at + size) 0 (drop (at + size) l))) (cuts-token at l h kind size e)
 
-      pub past-token : true ≡ begins words (drop (5 * (k + n)) tokens) → (d′ : ℕ) → d′ ≡ depthBy d kind → SameTo p number k tokens l d₀ (at + size) (n + 1) d′ (eqb kind Implies)
+      pub past-token : true ≡ begins words (drop (tokenSize * (k + n)) tokens) → (d′ : ℕ) → d′ ≡ depthBy d kind → SameTo p number k tokens l d₀ (at + size) (n + 1) d′ (eqb kind Implies)
       past-token q d′ ed =
           record {
             inside = token-inside .1;

@@ -1,6 +1,4 @@
-pub mod Begins
 pub mod Tokens
-pub mod LineRecords
 pub mod Cuts
 pub mod WholeLine
 pub mod LineReplies

@@ -7,7 +7,7 @@ use mathlib.Core.List.{List}
 use lib.ListN.{take, drop}
 use Rattle.rules.specs.Lists.{begins}
 use Rattle.rules.specs.Line.{State, levels, levelsOf, cutsFrom, Halt, lineHalts, readLine}
-use Rattle.rules.specs.Records.{tokenWords}
+use Rattle.rules.specs.Records.{widthWords, tokenSize, tokenWords}
 use Rattle.line.specs.States.{leading}
 use Rattle.line.specs.LineCuts.{lineCutsOf, tokensOf, wholeLine, lineReadOf, tokensIn, counted, countedOf}
 use Rattle.line.specs.declared.Lead.{Lead}
@@ -28,18 +28,18 @@ agreed-of b TooDeep widths = refl
 module _ (st : State) (line : List ℕ) where
   -- the levels at its start are known
   pub agreed-line : (lead : Lead) (widths : List ℕ) (p number k : ℕ) (tokens : List ℕ) (r : SameLine) → levelsOf 16 st line ≡ levels (leading lead) (take (lead .levels) widths)
-      → r ≡ sameLineIf (begins (tokenWords p number (tokensOf (wholeLine lead line (cutsFrom 0 0 line)))) (drop (5 * k) tokens)) (lineReadOf lead (lineCutsOf (st .depth) (cutsFrom 0 0 line)))
-      → agreedOf r widths ≡ agreedIf (begins (tokenWords p number (tokensIn (readLine 16 st line))) (drop (5 * k) tokens)) (counted (readLine 16 st line))
+      → r ≡ sameLineIf (begins (tokenWords p number (tokensOf (wholeLine lead line (cutsFrom 0 0 line)))) (drop (tokenSize * k) tokens)) (lineReadOf lead (lineCutsOf (st .depth) (cutsFrom 0 0 line)))
+      → agreedOf r widths ≡ agreedIf (begins (tokenWords p number (tokensIn (readLine 16 st line))) (drop (tokenSize * k) tokens)) (counted (readLine 16 st line))
   agreed-line lead widths p number k tokens r e q =
       ap (λ (x : SameLine). agreedOf x widths) q ∙ agreed-of _ (lineReadOf lead (lineCutsOf (st .depth) (cutsFrom 0 0 line))) widths
-      ∙ (λ i. agreedIf (begins (tokenWords p number (line-tokens st line lead widths e i)) (drop (5 * k) tokens))
+      ∙ (λ i. agreedIf (begins (tokenWords p number (line-tokens st line lead widths e i)) (drop (tokenSize * k) tokens))
       (line-counted st line lead widths e (lineReadOf lead (lineCutsOf (st .depth) (cutsFrom 0 0 line))) refl i))
 
   -- it does not read
   pub halted-line : (h : Halt) (b : Bool) → readLine 16 st line ≡ lineHalts h → differs ≡ agreedIf b (counted (readLine 16 st line))
   halted-line h b e = ap (λ x. agreedIf b (counted x)) (sym e)
 
-pub agrees-within : (lead : Lead) (b : Bool) (x : LineCuts) (r : SameLine) → r ≡ sameLineIf b (lineReadOf lead x) → lead .levels ≤ 16 → LevelsWithin r
+pub agrees-within : (lead : Lead) (b : Bool) (x : LineCuts) (r : SameLine) → r ≡ sameLineIf b (lineReadOf lead x) → lead .levels ≤ widthWords → LevelsWithin r
 agrees-within lead b x r e h = subst LevelsWithin (sym e) (go b x)
   where
     go : (y : Bool) (z : LineCuts) → LevelsWithin (sameLineIf y (lineReadOf lead z))

@@ -12,12 +12,12 @@ use Rattle.rules.specs.Line as rules-line
 use Rattle.rules.specs.Line.{initial, Token, dedents, LineReply, lineReads, lineHalts, readLine}
 use Rattle.rules.specs.Reading.{Line, linesOf, content, Entry, entry, readFrom, lineAt, sizeAt}
 use Rattle.rules.specs.Replies.{barge}
-use Rattle.rules.specs.Records.{lineNeed, tokenNeed, lineRecord, tokenWords, header, readLines}
+use Rattle.rules.specs.Records.{widthWords, lineSize, tokenSize, lineNeed, tokenNeed, lineRecord, tokenWords, header, readLines}
 use Rattle.rules.specs.Page.{isRecorded}
 use Rattle.rules.proofs.LineLaws.{firstSize-le, lines-at, content-first}
-use Rattle.line.specs.States.{stateOf}
+use Rattle.records.specs.States.{stateOf}
 use Rattle.line.specs.LineCuts.{tokensIn, counted}
-use Rattle.line.specs.declared.State.{State}
+use Rattle.records.specs.declared.State.{State}
 use Rattle.lines.proofs.Lines.{PassTo, pass-start, next-pass}
 use Rattle.checking.specs.Same.{agrees, differs, agreedIf, agreedOf, LevelsWithin}
 use Rattle.checking.specs.declared.SameLine.{SameLine}
@@ -51,7 +51,7 @@ module _ (t lines tokens : List ℕ) (count total : ℕ) where
     pub pass : PassTo t initial es widths p m k s
     pub left : rest p m k (stateOf s widths) (linesOf (drop p t)) ≡ answer
 
-  pub agrees-start : length lines ≡ lineNeed count → length tokens ≡ tokenNeed total → (widths : List ℕ) → length widths ≡ 16
+  pub agrees-start : length lines ≡ lineNeed count → length tokens ≡ tokenNeed total → (widths : List ℕ) → length widths ≡ widthWords
       → AgreesTo widths 0 0 0 (record { depth = 0; arrow = false; levels = 0 })
   agrees-start wide long widths h = record { es = []; pass = pass-start t widths (record { depth = 0; arrow = false; levels = 0 }) (omega arith) h; left = sym (whole-same lines tokens count total t wide long) }
 
@@ -65,7 +65,7 @@ module _ {t lines tokens : List ℕ} {count total : ℕ} {widths : List ℕ} {p 
   abbrev z : rules-line.State
   z = stateOf s widths
 
-  pub other-record : false ≡ begins (lineRecord p k z) (drop (21 * m) lines) → false ≡ goal
+  pub other-record : false ≡ begins (lineRecord p k z) (drop (lineSize * m) lines) → false ≡ goal
   other-record e = sym (record-other lines tokens count total p m k z (linesOf (drop p t)) (sym e)) ∙ v .left
 
   module _ (h : p < length t) where
@@ -83,7 +83,7 @@ module _ {t lines tokens : List ℕ} {count total : ℕ} {widths : List ℕ} {p 
 
     -- the line x is read from z, and r is the code's answer
     module _ (x : List ℕ) (here : x ≡ lineAt t p) (r : SameLine) (widths′ : List ℕ)
-        (e : agreedOf r widths′ ≡ agreedIf (begins (tokenWords p (m + 1) (tokensIn (readLine 16 z x))) (drop (5 * k) tokens)) (counted (readLine 16 z x)))
+        (e : agreedOf r widths′ ≡ agreedIf (begins (tokenWords p (m + 1) (tokensIn (readLine 16 z x))) (drop (tokenSize * k) tokens)) (counted (readLine 16 z x)))
       where
         read-as : (y : LineReply) → readLine 16 z x ≡ y → readLine 16 z (content line) ≡ y
         read-as y q = ap (readLine 16 z) (content-first (drop p t) ∙ sym here) ∙ q
@@ -91,21 +91,21 @@ module _ {t lines tokens : List ℕ} {count total : ℕ} {widths : List ℕ} {p 
         pub other-line : r ≡ Differs → false ≡ goal
         other-line q = go (readLine 16 z x) refl (ap (λ (y : SameLine). agreedOf y widths′) (sym q) ∙ e)
           where
-            go : (y : LineReply) → readLine 16 z x ≡ y → differs ≡ agreedIf (begins (tokenWords p (m + 1) (tokensIn y)) (drop (5 * k) tokens)) (counted y) → false ≡ goal
+            go : (y : LineReply) → readLine 16 z x ≡ y → differs ≡ agreedIf (begins (tokenWords p (m + 1) (tokensIn y)) (drop (tokenSize * k) tokens)) (counted y) → false ≡ goal
             go (lineHalts w) i d = sym (turn-halts lines tokens count total p m k z line others w (read-as (lineHalts w) i)) ∙ left-line
-            go (lineReads ts w) i d = by (begins (tokenWords p (m + 1) ts) (drop (5 * k) tokens)) refl d
+            go (lineReads ts w) i d = by (begins (tokenWords p (m + 1) ts) (drop (tokenSize * k) tokens)) refl d
               where
-                by : (b : Bool) → begins (tokenWords p (m + 1) ts) (drop (5 * k) tokens) ≡ b → differs ≡ agreedIf b (counted (lineReads ts w)) → false ≡ goal
+                by : (b : Bool) → begins (tokenWords p (m + 1) ts) (drop (tokenSize * k) tokens) ≡ b → differs ≡ agreedIf b (counted (lineReads ts w)) → false ≡ goal
                 by true j f = let n : _≡_ {A = ℕ} 0 1 = cc in absurd (omega arith)
                 by false j f = sym (turn-other lines tokens count total p m k z w line others ts (read-as (lineReads ts w) i) j) ∙ left-line
 
-        pub next-line : true ≡ begins (lineRecord p k z) (drop (21 * m) lines) → (n : ℕ) (s′ : State) → r ≡ Agrees n s′ → LevelsWithin r → length widths′ ≡ 16
+        pub next-line : true ≡ begins (lineRecord p k z) (drop (lineSize * m) lines) → (n : ℕ) (s′ : State) → r ≡ Agrees n s′ → LevelsWithin r → length widths′ ≡ widthWords
             → (q : ℕ) → q ≡ p + sizeAt t p → AgreesTo t lines tokens count total widths′ q (m + 1) (k + n) s′
         next-line er n s′ i few wide q at =
             let y : rules-line.State = stateOf s′ widths′ in
             let a = agreed-line _ (readLine 16 z x) n y (ap (λ (w : SameLine). agreedOf w widths′) (sym i) ∙ e) in
-            let same : true ≡ begins (tokenWords p (m + 1) (a .ts)) (drop (5 * k) tokens) =
-            a .agree ∙ ap (λ (w : LineReply). begins (tokenWords p (m + 1) (tokensIn w)) (drop (5 * k) tokens)) (a .is) in
+            let same : true ≡ begins (tokenWords p (m + 1) (a .ts)) (drop (tokenSize * k) tokens) =
+            a .agree ∙ ap (λ (w : LineReply). begins (tokenWords p (m + 1) (tokensIn w)) (drop (tokenSize * k) tokens)) (a .is) in
             let turn = turn-same lines tokens count total p m k z y line others (a .ts) (read-as (lineReads (a .ts) y) (a .is)) er same in
             let byte : q ≡ p + length line = omega (arith, size-is) in
             record {
@@ -130,5 +130,5 @@ module _ {t lines tokens : List ℕ} {count total : ℕ} {widths : List ℕ} {p 
     other-total n = sym (total-other lines tokens count total p m k z (s .levels) levels-are n) ∙ left-none
 
     pub end-is : m ≡ count → k + s .levels ≡ total → (r : Bool)
-        → r ≡ (begins (lineRecord p k z) (drop (21 * m) lines) && begins (tokenWords p (m + 1) (dedents (s .levels))) (drop (5 * k) tokens)) → r ≡ goal
+        → r ≡ (begins (lineRecord p k z) (drop (lineSize * m) lines) && begins (tokenWords p (m + 1) (dedents (s .levels))) (drop (tokenSize * k) tokens)) → r ≡ goal
     end-is em ek r e = e ∙ sym (end-decides lines tokens count total p m k z (s .levels) levels-are em ek) ∙ left-none

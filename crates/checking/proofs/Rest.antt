@@ -15,14 +15,14 @@ use Rattle.rules.specs.Kinds.{Dedent}
 use Rattle.rules.specs.Line.{State, initial, Token, tokenAt, dedents, Halt, LineReply, lineReads, lineHalts, readLine}
 use Rattle.rules.specs.Reading.{Line, linesOf, content, Entry, entry, Reading, reads, halts, withEntry, lineThen, readFrom, byteSum, tokenSum}
 use Rattle.rules.specs.Replies.{barge}
-use Rattle.rules.specs.Records.{lineNeed, tokenNeed, lineRecord, lineRecords, tokenWords, tokenRecords, withEnd, header, Records, recordsOf, recordedBy, readLines}
+use Rattle.rules.specs.Records.{lineSize, tokenSize, lineNeed, tokenNeed, lineRecord, lineRecords, tokenWords, tokenRecords, withEnd, header, Records, recordsOf, recordedBy, readLines}
 use Rattle.rules.specs.Page.{sameRecords, isRecorded}
 use Rattle.rules.proofs.ListLaws.{and-true}
 use Rattle.rules.proofs.StateLaws.{same-true, same-refl}
 use Rattle.rules.proofs.RecordLaws.{length-stateWords, length-tokenWords, fresh-sizes}
 use Rattle.rules.proofs.PageLaws.{sameRecords-true, sameRecords-refl}
 use Rattle.spelling.proofs.GroupLaws.{same-begins}
-use Rattle.checking.proofs.Begins.{begins-parts}
+use Rattle.rules.proofs.BeginsLaws.{begins-parts}
 
 -- two tests of which each follows from the other
 both-ways : (a b : Bool) → (a ≡ true → b ≡ true) → (b ≡ true → a ≡ true) → a ≡ b
@@ -37,7 +37,7 @@ shuffle true false true d e = refl
 shuffle true false false d e = refl
 shuffle false b c d e = refl
 
-length-lineRecord : (p k : ℕ) (s : State) → length (lineRecord p k s) ≡ 21
+length-lineRecord : (p k : ℕ) (s : State) → length (lineRecord p k s) ≡ lineSize
 unfolding lineRecord
 length-lineRecord p k s = ap (λ (n : ℕ). suc (suc n)) (length-stateWords s)
 
@@ -46,17 +46,17 @@ module _ (lines tokens : List ℕ) (count total : ℕ) where
   -- the records of a reading from byte p on stand from line m and token k on, and no others
   abbrev pub restSame : (p m k : ℕ) → Reading → Bool
   restSame p m k (reads es z) =
-      begins (lineRecords p k (withEnd es z)) (drop (21 * m) lines)
-      && begins (tokenRecords p (m + 1) (withEnd es z)) (drop (5 * k) tokens)
+      begins (lineRecords p k (withEnd es z)) (drop (lineSize * m) lines)
+      && begins (tokenRecords p (m + 1) (withEnd es z)) (drop (tokenSize * k) tokens)
       && (eqb (m + length es) count && eqb (k + tokenSum (withEnd es z)) total)
   restSame p m k (halts es h) = false
 
   module _ (p m k : ℕ) where
     abbrev recordSame : State → Bool
-    recordSame z = begins (lineRecord p k z) (drop (21 * m) lines)
+    recordSame z = begins (lineRecord p k z) (drop (lineSize * m) lines)
 
     abbrev tokensSame : List Token → Bool
-    tokensSame ts = begins (tokenWords p (m + 1) ts) (drop (5 * k) tokens)
+    tokensSame ts = begins (tokenWords p (m + 1) ts) (drop (tokenSize * k) tokens)
 
     -- one line more
     line-then : (z : State) (size : ℕ) (ts : List Token) (x : Reading)
@@ -65,14 +65,14 @@ module _ (lines tokens : List ℕ) (count total : ℕ) where
     line-then z size ts (halts es h) = sym (and-false (recordSame z && tokensSame ts))
     line-then z size ts (reads es w) =
         let more : List Entry = withEnd es w in
-        let first = begins-parts (lineRecord p k z) (lineRecords (p + size) (k + length ts) more) lines (21 * m) (21 * (m + 1)) (omega (arith, length-lineRecord p k z)) in
-        let second = begins-parts (tokenWords p (m + 1) ts) (tokenRecords (p + size) (suc (m + 1)) more) tokens (5 * k) (5 * (k + length ts)) (omega (arith, length-tokenWords p (m + 1) ts)) in
+        let first = begins-parts (lineRecord p k z) (lineRecords (p + size) (k + length ts) more) lines (lineSize * m) (lineSize * (m + 1)) (omega (arith, length-lineRecord p k z)) in
+        let second = begins-parts (tokenWords p (m + 1) ts) (tokenRecords (p + size) (suc (m + 1)) more) tokens (tokenSize * k) (tokenSize * (k + length ts)) (omega (arith, length-tokenWords p (m + 1) ts)) in
         let number : suc (m + 1) ≡ m + 1 + 1 = omega arith in
         let count-is : m + suc (length es) ≡ m + 1 + length es = omega arith in
         let total-is : k + (length ts + tokenSum more) ≡ k + length ts + tokenSum more = omega arith in
         (λ i. first i && second i && (eqb (count-is i) count && eqb (total-is i) total))
-        ∙ (λ i. recordSame z && begins (lineRecords (p + size) (k + length ts) more) (drop (21 * (m + 1)) lines)
-        && (tokensSame ts && begins (tokenRecords (p + size) (number i) more) (drop (5 * (k + length ts)) tokens))
+        ∙ (λ i. recordSame z && begins (lineRecords (p + size) (k + length ts) more) (drop (lineSize * (m + 1)) lines)
+        && (tokensSame ts && begins (tokenRecords (p + size) (number i) more) (drop (tokenSize * (k + length ts)) tokens))
         && (eqb (m + 1 + length es) count && eqb (k + length ts + tokenSum more) total))
         ∙ shuffle (recordSame z) _ (tokensSame ts) _ _
 
@@ -83,8 +83,8 @@ module _ (lines tokens : List ℕ) (count total : ℕ) where
     end-then z levels e =
         let g : ℕ = length (z .widths) in
         let all : k + (length (dedents g) + 0) ≡ k + g = omega (arith, length-replicate g (tokenAt Dedent 0 0)) in
-        (λ i. begins (append-nil (lineRecord p k z) i) (drop (21 * m) lines)
-        && begins (append-nil (tokenWords p (m + 1) (dedents g)) i) (drop (5 * k) tokens)
+        (λ i. begins (append-nil (lineRecord p k z) i) (drop (lineSize * m) lines)
+        && begins (append-nil (tokenWords p (m + 1) (dedents g)) i) (drop (tokenSize * k) tokens)
         && (eqb (add-zero m i) count && eqb (all i) total))
         ∙ ap (λ (n : ℕ). recordSame z && tokensSame (dedents n) && (eqb m count && eqb (k + n) total)) e
 

@@ -10,8 +10,8 @@ use lib.ListN.{drop}
 use Rattle.rules.specs.Lists.{begins}
 use Rattle.rules.specs.Kinds.{Dedent}
 use Rattle.rules.specs.Line.{Token, dedents}
-use Rattle.rules.specs.Records.{tokenWords}
-use Rattle.checking.proofs.Begins.{begins-parts}
+use Rattle.rules.specs.Records.{tokenSize, tokenWords}
+use Rattle.rules.proofs.BeginsLaws.{begins-parts}
 
 -- the words of one token in the line that starts at p, with number l
 abbrev pub oneToken : (p l : ℕ) → Token → List ℕ
@@ -19,26 +19,26 @@ oneToken p l t = t .kind ∷ (p + t .at) ∷ t .size ∷ l ∷ suc (t .at) ∷ [
 
 module _ (p l : ℕ) (tokens : List ℕ) where
   pub token-then : (k : ℕ) (t : Token) (ts : List Token)
-      → begins (tokenWords p l (t ∷ ts)) (drop (5 * k) tokens) ≡ (begins (oneToken p l t) (drop (5 * k) tokens) && begins (tokenWords p l ts) (drop (5 * (k + 1)) tokens))
+      → begins (tokenWords p l (t ∷ ts)) (drop (tokenSize * k) tokens) ≡ (begins (oneToken p l t) (drop (tokenSize * k) tokens) && begins (tokenWords p l ts) (drop (tokenSize * (k + 1)) tokens))
   unfolding tokenWords
-  token-then k t ts = begins-parts (oneToken p l t) (tokenWords p l ts) tokens (5 * k) (5 * (k + 1)) (omega arith)
+  token-then k t ts = begins-parts (oneToken p l t) (tokenWords p l ts) tokens (tokenSize * k) (tokenSize * (k + 1)) (omega arith)
 
-  pub no-tokens : (k : ℕ) → begins (tokenWords p l []) (drop (5 * k) tokens) ≡ true
+  pub no-tokens : (k : ℕ) → begins (tokenWords p l []) (drop (tokenSize * k) tokens) ≡ true
   unfolding tokenWords begins
   no-tokens k = refl
 
   -- Dedents, one at a time.
 
   abbrev pub oneDedent : ℕ → Bool
-  oneDedent k = begins (Dedent ∷ p ∷ 0 ∷ l ∷ 1 ∷ []) (drop (5 * k) tokens)
+  oneDedent k = begins (Dedent ∷ p ∷ 0 ∷ l ∷ 1 ∷ []) (drop (tokenSize * k) tokens)
 
   abbrev pub manyDedents : (k count : ℕ) → Bool
-  manyDedents k count = begins (tokenWords p l (dedents count)) (drop (5 * k) tokens)
+  manyDedents k count = begins (tokenWords p l (dedents count)) (drop (tokenSize * k) tokens)
 
   dedent-then : (k n : ℕ) → manyDedents k (suc n) ≡ (oneDedent k && manyDedents (k + 1) n)
   dedent-then k n =
       token-then k (record { kind = Dedent; at = 0; size = 0 }) (dedents n)
-      ∙ ap (λ (i : ℕ). begins (Dedent ∷ i ∷ 0 ∷ l ∷ 1 ∷ []) (drop (5 * k) tokens) && manyDedents (k + 1) n) (add-zero p)
+      ∙ ap (λ (i : ℕ). begins (Dedent ∷ i ∷ 0 ∷ l ∷ 1 ∷ []) (drop (tokenSize * k) tokens) && manyDedents (k + 1) n) (add-zero p)
 
   module _ (k count j : ℕ) (h : j < count) where
     left : count - j ≡ suc (count - (j + 1))

@@ -10,7 +10,7 @@ use lib.ListN.{length, drop}
 use Rattle.rules.specs.Lists.{begins}
 use Rattle.rules.specs.Kinds.{Newline}
 use Rattle.rules.specs.Line.{Token, tokenAt, Cuts, cuts, stops, depthAfter, arrowAfter}
-use Rattle.rules.specs.Records.{tokenWords}
+use Rattle.rules.specs.Records.{tokenSize, tokenWords}
 use Rattle.rules.proofs.RecordLaws.{length-tokenWords}
 use Rattle.line.specs.States.{leading}
 use Rattle.line.specs.LineCuts.{lineCutsOf, tokensOf, wholeLine, lineReadOf}
@@ -20,7 +20,7 @@ use Rattle.checking.specs.Same.{sameCutsIf, sameLineIf}
 use Rattle.checking.specs.declared.SameCuts.the-variants as same-cuts
 use Rattle.checking.specs.declared.SameLine.{SameLine}
 use Rattle.checking.specs.declared.SameLine.the-variants.{Agrees, Differs}
-use Rattle.checking.proofs.Begins.{begins-parts}
+use Rattle.rules.proofs.BeginsLaws.{begins-parts}
 
 -- cuts that agree
 pub record Ended (d : ℕ) (same : Bool) (x : Cuts) (n o : ℕ) (a : Bool) : Type 0 where
@@ -39,16 +39,16 @@ cuts-ended d b (stops f) n o a e = let z : _≡_ {A = ℕ} 0 1 = cc in absurd (o
 -- The line stands at byte p, has this number, and its first token is k; m tokens stand at its start.
 module _ (lead : Lead) (line : List ℕ) (d p number k m : ℕ) (tokens : List ℕ) (many : m ≡ length (leading lead)) where
   abbrev leadSame : Bool
-  leadSame = begins (tokenWords p number (leading lead)) (drop (5 * k) tokens)
+  leadSame = begins (tokenWords p number (leading lead)) (drop (tokenSize * k) tokens)
 
   abbrev cutsSame : Cuts → Bool
-  cutsSame x = begins (tokenWords p number (tokensOf x)) (drop (5 * (k + m)) tokens)
+  cutsSame x = begins (tokenWords p number (tokensOf x)) (drop (tokenSize * (k + m)) tokens)
 
   abbrev newlineSame : ℕ → Bool
-  newlineSame n = begins (Newline ∷ (p + length line) ∷ 0 ∷ number ∷ (length line + 1) ∷ []) (drop (5 * (k + m + n)) tokens)
+  newlineSame n = begins (Newline ∷ (p + length line) ∷ 0 ∷ number ∷ (length line + 1) ∷ []) (drop (tokenSize * (k + m + n)) tokens)
 
   abbrev wholeSame : Cuts → Bool
-  wholeSame x = begins (tokenWords p number (tokensOf (wholeLine lead line x))) (drop (5 * k) tokens)
+  wholeSame x = begins (tokenWords p number (tokensOf (wholeLine lead line x))) (drop (tokenSize * k) tokens)
 
   abbrev answer : Cuts → SameLine
   answer x = sameLineIf (wholeSame x) (lineReadOf lead (lineCutsOf d x))
@@ -63,10 +63,10 @@ module _ (lead : Lead) (line : List ℕ) (d p number k m : ℕ) (tokens : List �
       ap (λ (i : ℕ). Newline ∷ (p + length line) ∷ 0 ∷ number ∷ i ∷ []) (sym (add-one (length line))) in
       let words : tokenWords p number (leading lead ++ (ts ++ nl)) ≡ first ++ (second ++ (Newline ∷ (p + length line) ∷ 0 ∷ number ∷ (length line + 1) ∷ [])) =
       words-append p number (leading lead) (ts ++ nl) ∙ ap (λ (x : List ℕ). first ++ x) (words-append p number ts nl ∙ ap (λ (x : List ℕ). second ++ x) third) in
-      ap (λ (x : List ℕ). begins x (drop (5 * k) tokens)) words
-      ∙ begins-parts first (second ++ (Newline ∷ (p + length line) ∷ 0 ∷ number ∷ (length line + 1) ∷ [])) tokens (5 * k) (5 * (k + m)) (omega (arith, many, length-tokenWords p number (leading lead)))
+      ap (λ (x : List ℕ). begins x (drop (tokenSize * k) tokens)) words
+      ∙ begins-parts first (second ++ (Newline ∷ (p + length line) ∷ 0 ∷ number ∷ (length line + 1) ∷ [])) tokens (tokenSize * k) (tokenSize * (k + m)) (omega (arith, many, length-tokenWords p number (leading lead)))
       ∙ ap (λ (b : Bool). leadSame && b)
-      (begins-parts second (Newline ∷ (p + length line) ∷ 0 ∷ number ∷ (length line + 1) ∷ []) tokens (5 * (k + m)) (5 * (k + m + length ts)) (omega (arith, length-tokenWords p number ts)))
+      (begins-parts second (Newline ∷ (p + length line) ∷ 0 ∷ number ∷ (length line + 1) ∷ []) tokens (tokenSize * (k + m)) (tokenSize * (k + m + length ts)) (omega (arith, length-tokenWords p number ts)))
 
   answer-by : (ts : List Token) (b : Bool) → (leadSame && (cutsSame (cuts ts) && newlineSame (length ts))) ≡ b → answer (cuts ts) ≡ sameLineIf b (lineReadOf lead (lineCutsOf d (cuts ts)))
   answer-by ts b e = ap (λ (y : Bool). sameLineIf y (lineReadOf lead (lineCutsOf d (cuts ts)))) (whole-parts ts ∙ e)

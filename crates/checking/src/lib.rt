@@ -1,20 +1,20 @@
 // A page held against a fresh reading of its text, record by record.
 ghost use mathlib.Core.Path.{_≡_};
 ghost use mathlib.Core.Bool.{_&&_};
-ghost use mathlib.Core.List.{[], _∷_};
 ghost use Prim.Native.Nat.{_+_, _*_, _≤_};
-ghost use lib.ListN.{length, drop, take};
+ghost use lib.ListN.{length, drop};
 ghost use Rattle.rules.specs.Lists.{begins};
 ghost use Rattle.rules.specs.Line.{dedents, cutsFrom, readLine};
 ghost use Rattle.rules.specs.Replies.{barge};
-ghost use Rattle.rules.specs.Records.{packed, lineRecord, tokenWords, header, readLines, freshReading};
+ghost use Rattle.rules.specs.Records.{widthWords, lineSize, tokenSize, lineRecord, tokenWords, header, readLines, freshReading};
 ghost use Rattle.rules.specs.Page.{isRecorded};
 ghost use Rattle.rules.specs.Check.{checkReply};
 ghost use Rattle.header.specs.Pages.{page};
 ghost use Rattle.spelling.specs.Bytes.{classTable, reachTable};
 ghost use Rattle.spelling.specs.Rows.{keywordTable};
 ghost use Rattle.spelling.specs.Signs.{signTable, signIndexTable};
-ghost use Rattle.line.specs.States.{stateOf, leading};
+ghost use Rattle.records.specs.States.{stateOf};
+ghost use Rattle.line.specs.States.{leading};
 ghost use Rattle.line.specs.LineCuts.{lineCutsOf, tokensOf, wholeLine, lineReadOf, tokensIn, counted};
 ghost use Rattle.checking.specs.Same.{sameCutsIf, sameLineIf, agreedIf, agreedOf, LevelsWithin};
 ghost use Rattle.checking.specs.Answers.{checkNumbers};
@@ -27,7 +27,7 @@ pub enum SameCuts {
 
 // What a line gives where the words agree with its tokens: their number and the state after it.
 pub enum SameLine {
-    Agrees(usize, line::State),
+    Agrees(usize, records::State),
     Differs,
 }
 
@@ -38,53 +38,14 @@ pub enum CheckAnswer {
     Unfit,
 }
 
-// The words from an index on begin with these five.
-fn same_five(words: &[u32], at: usize, a: u32, b: u32, c: u32, d: u32, e: u32) -> bool
-    requires { ⌜ at ≤ 100_000_000 ⌝ }
-    ensures { λ r. ⌜ r ≡ begins (a ∷ b ∷ c ∷ d ∷ e ∷ []) (drop at (now (words .entry))) ⌝ }
-{
-    if words.len() < at + 5 {
-        return false;
-    }
-    if a != words[at] {
-        return false;
-    }
-    if b != words[at + 1] {
-        return false;
-    }
-    if c != words[at + 2] {
-        return false;
-    }
-    if d != words[at + 3] {
-        return false;
-    }
-    e == words[at + 4]
-}
-
-// Token record k has this kind, position, length, line and column.
-fn same_token(
-    tokens: &[u32],
-    k: usize,
-    kind: u32,
-    position: u32,
-    size: u32,
-    number: u32,
-    column: u32,
-) -> bool
-    requires { ⌜ k ≤ 10_000_000 ⌝ }
-    ensures { λ r. ⌜ r ≡ begins (kind ∷ position ∷ size ∷ number ∷ column ∷ []) (drop (5 * k) (now (tokens .entry))) ⌝ }
-{
-    same_five(tokens, 5 * k, kind, position, size, number, column)
-}
-
 // The records from k on begin with so many Dedents at this position and line, column 1.
 fn same_dedents(tokens: &[u32], k: usize, count: usize, position: u32, number: u32) -> bool
     requires { ⌜ k + count ≤ 10_000_000 ⌝ }
-    ensures { λ r. ⌜ r ≡ begins (tokenWords position number (dedents count)) (drop (5 * k) (now (tokens .entry))) ⌝ }
+    ensures { λ r. ⌜ r ≡ begins (tokenWords position number (dedents count)) (drop (tokenSize * k) (now (tokens .entry))) ⌝ }
 {
     let mut j: usize = 0;
     while j < count {
-        if !same_token(tokens, k + j, 91, position, 0, number, 1) {
+        if !records::same_token(tokens, k + j, 91, position, 0, number, 1) {
             return false;
         }
         j += 1;
@@ -94,11 +55,11 @@ fn same_dedents(tokens: &[u32], k: usize, count: usize, position: u32, number: u
 
 // The records from k on begin with the Indent or the Dedents at a line's start.
 fn same_leading(tokens: &[u32], k: usize, lead: line::Lead, position: u32, number: u32) -> bool
-    requires { ⌜ (k ≤ 4_194_304) × (lead .closes ≤ 16) ⌝ }
-    ensures { λ r. ⌜ r ≡ begins (tokenWords position number (leading lead)) (drop (5 * k) (now (tokens .entry))) ⌝ }
+    requires { ⌜ (k ≤ 4_194_304) × (lead .closes ≤ widthWords) ⌝ }
+    ensures { λ r. ⌜ r ≡ begins (tokenWords position number (leading lead)) (drop (tokenSize * k) (now (tokens .entry))) ⌝ }
 {
     if lead.opens {
-        return same_token(tokens, k, 90, position, 0, number, 1);
+        return records::same_token(tokens, k, 90, position, 0, number, 1);
     }
     same_dedents(tokens, k, lead.closes, position, number)
 }
@@ -133,7 +94,7 @@ fn same_cuts(
     requires { ⌜ now signs ≡ signTable ⌝ }
     requires { ⌜ now keywords ≡ keywordTable ⌝ }
     requires { ⌜ (position + length (now line) ≤ 1_048_576) × ((depth ≤ 4_194_304) × (k ≤ 4_194_304)) ⌝ }
-    ensures { λ r. ⌜ r ≡ sameCutsIf (begins (tokenWords position number (tokensOf (cutsFrom 0 0 (now (line .entry))))) (drop (5 * k) (now (tokens .entry)))) (lineCutsOf depth (cutsFrom 0 0 (now (line .entry)))) ⌝ }
+    ensures { λ r. ⌜ r ≡ sameCutsIf (begins (tokenWords position number (tokensOf (cutsFrom 0 0 (now (line .entry))))) (drop (tokenSize * k) (now (tokens .entry)))) (lineCutsOf depth (cutsFrom 0 0 (now (line .entry)))) ⌝ }
 {
     let mut at: usize = 0;
     let mut n: usize = 0;
@@ -149,7 +110,7 @@ fn same_cuts(
                 return SameCuts::Ends(n, open, arrow);
             }
             cut::Cut::Token(kind, size) => {
-                if !same_token(
+                if !records::same_token(
                     tokens,
                     k + n,
                     kind,
@@ -194,8 +155,8 @@ fn tokens_agree(
     requires { ⌜ now signs ≡ signTable ⌝ }
     requires { ⌜ now keywords ≡ keywordTable ⌝ }
     requires { ⌜ (position + length (now line) ≤ 1_048_576) × ((depth ≤ 4_194_304) × (k ≤ 3_000_000)) ⌝ }
-    requires { ⌜ lead .closes ≤ 16 ⌝ }
-    ensures { λ r. ⌜ r ≡ sameLineIf (begins (tokenWords position number (tokensOf (wholeLine lead (now (line .entry)) (cutsFrom 0 0 (now (line .entry)))))) (drop (5 * k) (now (tokens .entry)))) (lineReadOf lead (lineCutsOf depth (cutsFrom 0 0 (now (line .entry))))) ⌝ }
+    requires { ⌜ lead .closes ≤ widthWords ⌝ }
+    ensures { λ r. ⌜ r ≡ sameLineIf (begins (tokenWords position number (tokensOf (wholeLine lead (now (line .entry)) (cutsFrom 0 0 (now (line .entry)))))) (drop (tokenSize * k) (now (tokens .entry)))) (lineReadOf lead (lineCutsOf depth (cutsFrom 0 0 (now (line .entry))))) ⌝ }
 {
     if !same_leading(tokens, k, lead, position, number) {
         return SameLine::Differs;
@@ -216,12 +177,12 @@ fn tokens_agree(
     ) {
         SameCuts::Ends(n, open, arrow) => {
             let size = line.len() as u32;
-            if !same_token(tokens, k + m + n, 92, position + size, 0, number, size + 1) {
+            if !records::same_token(tokens, k + m + n, 92, position + size, 0, number, size + 1) {
                 return SameLine::Differs;
             }
             SameLine::Agrees(
                 m + n + 1,
-                line::State {
+                records::State {
                     depth: open,
                     arrow: arrow,
                     levels: lead.levels,
@@ -245,7 +206,7 @@ fn line_agrees(
     position: u32,
     number: u32,
     widths: &mut [u32],
-    s: line::State,
+    s: records::State,
 ) -> SameLine
     requires { ⌜ now class ≡ classTable ⌝ }
     requires { ⌜ now reach ≡ reachTable ⌝ }
@@ -253,8 +214,8 @@ fn line_agrees(
     requires { ⌜ now signs ≡ signTable ⌝ }
     requires { ⌜ now keywords ≡ keywordTable ⌝ }
     requires { ⌜ (position + length (now line) ≤ 1_048_576) × ((s .depth ≤ 4_194_304) × (k ≤ 3_000_000)) ⌝ }
-    requires { ⌜ (length (now widths) ≡ 16) × (s .levels ≤ 16) ⌝ }
-    ensures { λ r. ⌜ agreedOf r (now (widths .exit)) ≡ agreedIf (begins (tokenWords position number (tokensIn (readLine 16 (stateOf s (now (widths .entry))) (now (line .entry))))) (drop (5 * k) (now (tokens .entry)))) (counted (readLine 16 (stateOf s (now (widths .entry))) (now (line .entry)))) ⌝ }
+    requires { ⌜ (length (now widths) ≡ widthWords) × (s .levels ≤ widthWords) ⌝ }
+    ensures { λ r. ⌜ agreedOf r (now (widths .exit)) ≡ agreedIf (begins (tokenWords position number (tokensIn (readLine 16 (stateOf s (now (widths .entry))) (now (line .entry))))) (drop (tokenSize * k) (now (tokens .entry)))) (counted (readLine 16 (stateOf s (now (widths .entry))) (now (line .entry)))) ⌝ }
     ensures { λ r. ⌜ LevelsWithin r ⌝ }
 {
     let depth = s.depth;
@@ -279,51 +240,6 @@ fn line_agrees(
     }
 }
 
-// The words from an index on begin with the widths of the open levels, and 0 for each other word.
-fn same_widths(lines: &[u32], at: usize, widths: &[u32], levels: usize) -> bool
-    requires { ⌜ (length (now widths) ≡ 16) × ((levels ≤ 16) × (at ≤ 100_000_000)) ⌝ }
-    ensures { λ r. ⌜ r ≡ begins (packed (take levels (now (widths .entry)))) (drop at (now (lines .entry))) ⌝ }
-{
-    if lines.len() < at + 16 {
-        return false;
-    }
-    let mut i: usize = 0;
-    while i < 16 {
-        if lines::width_at(widths, levels, i) != lines[at + i] {
-            return false;
-        }
-        i += 1;
-    }
-    true
-}
-
-// Line record m has this start, first token's number and state.
-fn same_line_record(
-    lines: &[u32],
-    m: usize,
-    start: u32,
-    first: u32,
-    s: line::State,
-    widths: &[u32],
-) -> bool
-    requires { ⌜ (length (now widths) ≡ 16) × ((s .levels ≤ 16) × (m ≤ 1_048_576)) ⌝ }
-    ensures { λ r. ⌜ r ≡ begins (lineRecord start first (stateOf s (now (widths .entry)))) (drop (21 * m) (now (lines .entry))) ⌝ }
-{
-    let at = 21 * m;
-    if !same_five(
-        lines,
-        at,
-        start,
-        first,
-        s.depth,
-        s.arrow as u32,
-        s.levels as u32,
-    ) {
-        return false;
-    }
-    same_widths(lines, at + 5, widths, s.levels)
-}
-
 // The end record and the closing Dedents.
 fn end_agrees(
     lines: &[u32],
@@ -331,13 +247,13 @@ fn end_agrees(
     p: u32,
     m: usize,
     k: usize,
-    s: line::State,
+    s: records::State,
     widths: &[u32],
 ) -> bool
-    requires { ⌜ (length (now widths) ≡ 16) × ((s .levels ≤ 16) × ((m ≤ 1_048_576) × (k ≤ 4_194_304))) ⌝ }
-    ensures { λ r. ⌜ r ≡ (begins (lineRecord p k (stateOf s (now (widths .entry)))) (drop (21 * m) (now (lines .entry))) && begins (tokenWords p (m + 1) (dedents (s .levels))) (drop (5 * k) (now (tokens .entry)))) ⌝ }
+    requires { ⌜ (length (now widths) ≡ widthWords) × ((s .levels ≤ widthWords) × ((m ≤ 1_048_576) × (k ≤ 4_194_304))) ⌝ }
+    ensures { λ r. ⌜ r ≡ (begins (lineRecord p k (stateOf s (now (widths .entry)))) (drop (lineSize * m) (now (lines .entry))) && begins (tokenWords p (m + 1) (dedents (s .levels))) (drop (tokenSize * k) (now (tokens .entry)))) ⌝ }
 {
-    if same_line_record(lines, m, p, k as u32, s, widths) {
+    if records::same_line(lines, m, p, k as u32, s, widths) {
         return same_dedents(tokens, k, s.levels, p, m as u32 + 1);
     }
     false
@@ -362,20 +278,20 @@ fn lines_agree(
     requires { ⌜ now index ≡ signIndexTable ⌝ }
     requires { ⌜ now signs ≡ signTable ⌝ }
     requires { ⌜ now keywords ≡ keywordTable ⌝ }
-    requires { ⌜ (length (now text) ≤ 1_048_576) × (length (now widths) ≡ 16) ⌝ }
-    requires { ⌜ (length (now lines) ≡ 21 * (count + 1)) × (length (now tokens) ≡ 5 * total) ⌝ }
+    requires { ⌜ (length (now text) ≤ 1_048_576) × (length (now widths) ≡ widthWords) ⌝ }
+    requires { ⌜ (length (now lines) ≡ lineSize * (count + 1)) × (length (now tokens) ≡ tokenSize * total) ⌝ }
     ensures { λ r. ⌜ r ≡ isRecorded (record { head = header (length (now (text .entry))) count total; lines = now (lines .entry); tokens = now (tokens .entry) }) (readLines barge (now (text .entry))) ⌝ }
 {
     let mut p: usize = 0;
     let mut m: usize = 0;
     let mut k: usize = 0;
-    let mut s = line::State {
+    let mut s = records::State {
         depth: 0,
         arrow: false,
         levels: 0,
     };
     while p < text.len() {
-        if !same_line_record(lines, m, p as u32, k as u32, s, widths) {
+        if !records::same_line(lines, m, p as u32, k as u32, s, widths) {
             return false;
         }
         let end = lines::line_end(text, p);
@@ -415,7 +331,7 @@ fn lines_agree(
 
 // A text with as many line and token words as `count` lines and `total` tokens need: they are its fresh reading.
 fn is_fresh(text: &[u8], lines: &[u32], tokens: &[u32], count: usize, total: usize) -> bool
-    requires { ⌜ (length (now lines) ≡ 21 * (count + 1)) × (length (now tokens) ≡ 5 * total) ⌝ }
+    requires { ⌜ (length (now lines) ≡ lineSize * (count + 1)) × (length (now tokens) ≡ tokenSize * total) ⌝ }
     ensures { λ r. ⌜ r ≡ isRecorded (record { head = header (length (now (text .entry))) count total; lines = now (lines .entry); tokens = now (tokens .entry) }) (freshReading (now (text .entry))) ⌝ }
 {
     if 1_048_576 < text.len() {
@@ -429,7 +345,7 @@ fn is_fresh(text: &[u8], lines: &[u32], tokens: &[u32], count: usize, total: usi
     let index = spelling::sign_index();
     let signs = spelling::sign_table();
     let keywords = spelling::keyword_table();
-    let mut widths: [u32; 16] = [0; 16];
+    let mut widths: [u32; records::LEVELS] = [0; records::LEVELS];
     lines_agree(
         &class,
         &reach,
@@ -455,8 +371,8 @@ pub fn check(n: u32, m: u32, k: u32, text: &[u8], lines: &[u32], tokens: &[u32])
     let size = n as usize;
     let count = m as usize;
     let total = k as usize;
-    let line_words = 21 * (count + 1);
-    let token_words = 5 * total;
+    let line_words = records::LINE * (count + 1);
+    let token_words = records::TOKEN * total;
     if is_fresh(
         &text[0..size],
         &lines[0..line_words],

@@ -1,4 +1,4 @@
--- What a line begins with at an index, one byte at a time.
+-- Trailing CRs, one of some bytes, and byte literals, one byte at a time.
 -- Assumes nothing.
 use Prim.Native.Nat.{ℕ, zero, suc, _+_, _-_, _≤_, _<_}
 use mathlib.Core.Path.{_≡_, refl, sym, ap, _∙_}
@@ -14,32 +14,7 @@ use borrow.Author.Tests.{eq-eqb, ne-eqb, eqb-true}
 use Rattle.rules.specs.Lists.{ascii, any, elem, begins, trimmed, trimEnd}
 use Rattle.rules.specs.Tables.{isCR}
 use Rattle.rules.proofs.ListLaws.{and-left, and-right, begins-le, trim-pass, trim-stop, trimEnd-keeps}
-
-module _ (p s : List ℕ) (at j : ℕ) (hp : j < length p) (hs : at + j < length s) where
-  step : begins (drop j p) (drop (at + j) s) ≡ (eqb (getD p j 0) (getD s (at + j) 0) && begins (drop (j + 1) p) (drop (at + (j + 1)) s))
-  unfolding begins
-  step =
-      let e : at + (j + 1) ≡ suc (at + j) = omega arith in
-      rw (drop-cons p j 0 hp, drop-cons s (at + j) 0 hs, e, add-one)
-
-  -- a byte that agrees, and one that does not
-  pub begins-more : getD s (at + j) 0 ≡ getD p j 0 → begins (drop j p) (drop (at + j) s) ≡ begins (drop (j + 1) p) (drop (at + (j + 1)) s)
-  begins-more e = step ∙ rw (eq-eqb (getD p j 0) (getD s (at + j) 0) (sym e))
-
-  pub begins-other : (getD s (at + j) 0 ≡ getD p j 0 → ⊥) → begins (drop j p) (drop (at + j) s) ≡ false
-  begins-other h = step ∙ rw (ne-eqb (getD p j 0) (getD s (at + j) 0) (λ e. h (sym e)))
-
-pub begins-all : (p s : List ℕ) (j : ℕ) → length p ≤ j → begins (drop j p) s ≡ true
-unfolding begins
-begins-all p s j h = rw (drop-of-length-le p h)
-
--- a text that is too short
-pub begins-short : (p s : List ℕ) → length s < length p → begins p s ≡ false
-begins-short p s h = go (begins p s) refl
-  where
-    go : (b : Bool) → begins p s ≡ b → b ≡ false
-    go true e = absurd (omega (arith, begins-le p s e))
-    go false e = refl
+use Rattle.rules.proofs.BeginsLaws.{begins-other}
 
 -- Trailing CRs, one byte at a time from the end.
 module _ (l : List ℕ) (n : ℕ) (some : 0 < n) (inside : n ≤ length l) where

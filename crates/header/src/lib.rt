@@ -11,8 +11,8 @@ pub fn fits(n: u32, m: u32, k: u32, text: usize, lines: usize, tokens: usize) ->
     if text < n as usize {
         return false;
     }
-    if lines < 21 * (m as usize + 1) {
+    if lines < records::LINE * (m as usize + 1) {
         return false;
     }
-    5 * (k as usize) <= tokens
+    records::TOKEN * (k as usize) <= tokens
 }

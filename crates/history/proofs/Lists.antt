@@ -117,7 +117,7 @@ module _ (text₀ spare₀ fresh₀ tokens₀ edits bytes : List ℕ) where
     lent₀ = lent (header 0 0 0) text₀ spare₀ lines₀ tokens₀
 
     fresh-reply : (0 ∷ 0 ∷ 0 ∷ 0 ∷ []) ≡ freshReply (length lines₀)
-    fresh-reply = fresh-long lines₀ long (overwrite (replicate 21 0) lines₀) refl .0
+    fresh-reply = fresh-long lines₀ long (overwrite (replicate lineSize 0) lines₀) refl .0
 
     first-is : first ≡ freshLent lent₀
     unfolding headerAfter

@@ -95,8 +95,8 @@ pub fn apply_edits(
     ensures { λ r. ⌜ (length (now (lines .entry)) < lineSize → (editNumbers (r .last) ≡ freshReply (length (now (lines .entry)))) × (lent (header (r .n) (r .m) (r .k)) (now (text .exit)) (now (spare .exit)) (now (lines .exit)) (now (tokens .exit)) ≡ lent (header 0 0 0) (now (text .entry)) (now (spare .entry)) (now (lines .entry)) (now (tokens .entry)))) ⌝ }
 {
     let _ = page::fresh(lines);
-    if lines.len() < 21 {
-        let short = page::EditAnswer::ShortLines(21);
+    if lines.len() < records::LINE {
+        let short = page::EditAnswer::ShortLines(records::LINE);
         return Outcome {
             n: 0,
             m: 0,

@@ -8,7 +8,7 @@ use native.Mathlib.Numerals.{add-one}
 use lib.ListN.{length, length-replicate}
 use Rattle.rules.specs.Kinds.{Dedent}
 use Rattle.rules.specs.Line.{tokenAt, dedents}
-use Rattle.rules.specs.Records.{tokenWords}
+use Rattle.rules.specs.Records.{tokenSize, tokenWords}
 use Rattle.rules.proofs.RecordLaws.{length-tokenWords}
 
 pub dedent-words : (p l j : ℕ) → tokenWords p l (dedents j) ++ (Dedent ∷ p ∷ 0 ∷ l ∷ 1 ∷ []) ≡ tokenWords p l (dedents (j + 1))
@@ -19,5 +19,5 @@ dedent-words p l j = rw add-one (go j)
     go zero = rw add-zero
     go (suc i) = rw (go i)
 
-pub length-dedent-words : (p l j : ℕ) → length (tokenWords p l (dedents j)) ≡ 5 * j
-length-dedent-words p l j = length-tokenWords p l (dedents j) ∙ ap (λ (n : ℕ). 5 * n) (length-replicate j (tokenAt Dedent 0 0))
+pub length-dedent-words : (p l j : ℕ) → length (tokenWords p l (dedents j)) ≡ tokenSize * j
+length-dedent-words p l j = length-tokenWords p l (dedents j) ∙ ap (λ (n : ℕ). tokenSize * n) (length-replicate j (tokenAt Dedent 0 0))

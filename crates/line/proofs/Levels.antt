@@ -13,6 +13,7 @@ use borrow.Author.Tests.{lt-ltb, le-ltb, eq-eqb, ne-eqb}
 use Rattle.rules.specs.Lists.{trimEnd, lastD, overwrite}
 use Rattle.rules.specs.Kinds.{Indent}
 use Rattle.rules.specs.Line.{tokenAt, dedents, Levels, levels, unequal, tooDeep, opened, closed, compared}
+use Rattle.rules.specs.Records.{widthWords}
 use Rattle.line.specs.States.{widthsAfter}
 
 -- n widths stored at the front of others, which they agree with further on
@@ -24,25 +25,25 @@ front-stored n xs ws h e = rw (length-take-le n xs h, ← e, take-append-drop)
 abbrev Is : (ws : List ℕ) (n w : ℕ) → Levels → (after : List ℕ) → Type 0
 Is ws n w l after = (l ≡ compared 16 w (take n ws)) × (after ≡ widthsAfter (compared 16 w (take n ws)) ws)
 
-module _ (ws : List ℕ) (n w : ℕ) (len : length ws ≡ 16) (few : n ≤ 16) where
+module _ (ws : List ℕ) (n w : ℕ) (len : length ws ≡ widthWords) (few : n ≤ widthWords) where
   count : length (take n ws) ≡ n
   count = length-take-le n ws (omega arith)
 
   module _ (wider : lastD (take n ws) 0 < w) where
-    too-deep : n ≡ 16 → compared 16 w (take n ws) ≡ tooDeep
+    too-deep : n ≡ widthWords → compared 16 w (take n ws) ≡ tooDeep
     unfolding compared opened
     too-deep e = rw (lt-ltb (lastD (take n ws) 0) w wider, count, le-ltb n 16 (omega arith))
 
-    opens : (n ≡ 16 → ⊥) → compared 16 w (take n ws) ≡ levels (tokenAt Indent 0 0 ∷ []) (take (n + 1) (set ws n w))
+    opens : (n ≡ widthWords → ⊥) → compared 16 w (take n ws) ≡ levels (tokenAt Indent 0 0 ∷ []) (take (n + 1) (set ws n w))
     unfolding compared opened
     opens e =
         rw (lt-ltb (lastD (take n ws) 0) w wider, count, lt-ltb n 16 (omega arith))
         (ap (levels (tokenAt Indent 0 0 ∷ [])) (sym (ap (λ (k : ℕ). take k (set ws n w)) (add-one n) ∙ take-suc-set ws n w (omega arith))))
 
-    pub compared-deep : n ≡ 16 → Is ws n w tooDeep ws
+    pub compared-deep : n ≡ widthWords → Is ws n w tooDeep ws
     compared-deep e = rw (too-deep e) (refl, refl)
 
-    pub compared-opens : (n ≡ 16 → ⊥) → Is ws n w (levels (tokenAt Indent 0 0 ∷ []) (take (n + 1) (set ws n w))) (set ws n w)
+    pub compared-opens : (n ≡ widthWords → ⊥) → Is ws n w (levels (tokenAt Indent 0 0 ∷ []) (take (n + 1) (set ws n w))) (set ws n w)
     compared-opens e =
         rw (opens e) (refl, front-stored (n + 1) (set ws n w) ws (simp length-set (omega arith)) (drop-set-lt (n + 1) ws n w (omega arith)))
 

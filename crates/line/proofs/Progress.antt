@@ -13,7 +13,7 @@ use Rattle.rules.specs.Kinds.{Ident, Implies, LParen, RParen}
 use Rattle.rules.specs.Failure.{Failure}
 use Rattle.rules.specs.Cut.{blank, comment, token, fails, cut}
 use Rattle.rules.specs.Line.{Token, tokenAt, Cuts, cuts, stops, withToken, movedBy, cutsFrom, isSpace, depthAfter, arrowAfter}
-use Rattle.rules.specs.Records.{tokenWords}
+use Rattle.rules.specs.Records.{tokenSize, tokenWords}
 use Rattle.rules.proofs.CutLaws.{TokenOk, cut-ok, cuts-end, cuts-blank, cuts-comment, cuts-token, cuts-fails}
 use Rattle.rules.proofs.RecordLaws.{length-tokenWords}
 use Rattle.cut.specs.Cuts.{plainKind, cutNamed}
@@ -91,7 +91,7 @@ failure-at l at f h e =
     omega (arith, ok, length-drop at l)
 
 -- room for all tokens of a line
-pub all-room : (x : Cuts) (k m : ℕ) → RoomFor x k m → (ts : List Token) × (x ≡ cuts ts) × (5 * (k + length ts) ≤ m)
+pub all-room : (x : Cuts) (k m : ℕ) → RoomFor x k m → (ts : List Token) × (x ≡ cuts ts) × (tokenSize * (k + length ts) ≤ m)
 all-room (cuts ts) k m h = (ts, refl, h)
 all-room (stops f) k m h = absurd h
 
@@ -106,7 +106,7 @@ module _ (l : List ℕ) (d₀ : ℕ) (place : Place) (tokens₀ : List ℕ) wher
     pub depth-is : depthAfter d₀ done ≡ t .«open»
     pub shallow : t .«open» ≤ d₀ + t .at
     pub arrow-is : arrowAfter false done ≡ t .arrow
-    pub words : tokens ≡ putIf (place .write) tokens₀ (5 * place .first) (tokenWords (place .position) (place .number) done)
+    pub words : tokens ≡ putIf (place .write) tokens₀ (tokenSize * place .first) (tokenWords (place .position) (place .number) done)
 
   pub start : (spaces : ℕ) → spaces ≡ run isSpace l → Progress tokens₀ (cursorAt spaces d₀)
   unfolding depthAfter arrowAfter tokenWords
@@ -120,12 +120,12 @@ module _ (l : List ℕ) (d₀ : ℕ) (place : Place) (tokens₀ : List ℕ) wher
         depth-is = refl;
         shallow = omega arith;
         arrow-is = refl;
-        words = sym (putIf-none (place .write) tokens₀ (5 * place .first));
+        words = sym (putIf-none (place .write) tokens₀ (tokenSize * place .first));
       }
 
 module _ {l : List ℕ} {d₀ : ℕ} {place : Place} {tokens₀ tokens : List ℕ} {t : Cursor} (v : Progress l d₀ place tokens₀ tokens t) where
   pub same-tokens : length tokens ≡ length tokens₀
-  same-tokens = ap length (v .words) ∙ length-putIf (place .write) tokens₀ (5 * place .first) (tokenWords (place .position) (place .number) (v .done))
+  same-tokens = ap length (v .words) ∙ length-putIf (place .write) tokens₀ (tokenSize * place .first) (tokenWords (place .position) (place .number) (v .done))
 
   pub at-end : length l ≤ t .at → cutsFrom 0 0 l ≡ cuts (v .done)
   unfolding withTokens
@@ -170,18 +170,18 @@ module _ {l : List ℕ} {d₀ : ℕ} {place : Place} {tokens₀ tokens : List �
       unfolding depthBy
       depth-then = depth-snoc d₀ (v .done) one ∙ rw (v .depth-is, given LParen (omega arith), given RParen (omega arith)) refl
 
-      words-then : putIf (place .write) tokens (5 * (place .first + t .n)) (wordsAt place (t .at) kind size)
-          ≡ putIf (place .write) tokens₀ (5 * place .first) (tokenWords (place .position) (place .number) (v .done ++ (one ∷ [])))
+      words-then : putIf (place .write) tokens (tokenSize * (place .first + t .n)) (wordsAt place (t .at) kind size)
+          ≡ putIf (place .write) tokens₀ (tokenSize * place .first) (tokenWords (place .position) (place .number) (v .done ++ (one ∷ [])))
       words-then =
-          let at : ℕ = 5 * (place .first + t .n) in
+          let at : ℕ = tokenSize * (place .first + t .n) in
           let ws : List ℕ = wordsAt place (t .at) kind size in
           ap (λ (ts : List ℕ). putIf (place .write) ts at ws) (v .words)
-          ∙ putIf-append (place .write) tokens₀ (5 * place .first) at before ws (omega (arith, length-tokenWords (place .position) (place .number) (v .done), v .count))
-          ∙ putIf-by (place .write) tokens₀ (5 * place .first) _ (tokenWords (place .position) (place .number) (v .done ++ (one ∷ [])))
+          ∙ putIf-append (place .write) tokens₀ (tokenSize * place .first) at before ws (omega (arith, length-tokenWords (place .position) (place .number) (v .done), v .count))
+          ∙ putIf-by (place .write) tokens₀ (tokenSize * place .first) _ (tokenWords (place .position) (place .number) (v .done ++ (one ∷ [])))
           (λ w. ap (λ (k : ℕ). before ++ wordsAt place (t .at) k size) (sym (x .named .real w))
           ∙ ap (λ (c : ℕ). before ++ (x .real ∷ (place .position + t .at) ∷ size ∷ place .number ∷ c ∷ [])) (add-one (t .at)) ∙ sym (words-snoc (place .position) (place .number) (v .done) one))
 
-      past : Progress l d₀ place tokens₀ (putIf (place .write) tokens (5 * (place .first + t .n)) (wordsAt place (t .at) kind size)) (tokenPast t kind size)
+      past : Progress l d₀ place tokens₀ (putIf (place .write) tokens (tokenSize * (place .first + t .n)) (wordsAt place (t .at) kind size)) (tokenPast t kind size)
       past =
           record {
             done = v .done ++ (one ∷ []);
@@ -196,7 +196,7 @@ module _ {l : List ℕ} {d₀ : ℕ} {place : Place} {tokens₀ tokens : List �
           }
 
       pub past-token : (t′ : Cursor) → t′ ≡ tokenPast t kind size → (tokens′ : List ℕ)
-          → tokens′ ≡ putIf (place .write) tokens (5 * (place .first + t .n)) (wordsAt place (t .at) kind size) → Progress l d₀ place tokens₀ tokens′ t′
+          → tokens′ ≡ putIf (place .write) tokens (tokenSize * (place .first + t .n)) (wordsAt place (t .at) kind size) → Progress l d₀ place tokens₀ tokens′ t′
       past-token t′ is tokens′ written =
           subst (λ (ts : List ℕ). Progress l d₀ place tokens₀ ts t′) (sym written) (subst (Progress l d₀ place tokens₀ _) (sym is) past)
 
@@ -215,18 +215,18 @@ module _ {l : List ℕ} {d₀ : ℕ} {place : Place} {tokens₀ tokens : List �
   -- The line is done: all that was cut stands there, or the pass does not write.
 
   abbrev Done : LineCuts → Type 0
-  Done r = (r ≡ lineCutsOf d₀ (cutsFrom 0 0 l)) × (tokens ≡ putIf (place .write) tokens₀ (5 * place .first) (tokenWords (place .position) (place .number) (tokensOf (cutsFrom 0 0 l))))
+  Done r = (r ≡ lineCutsOf d₀ (cutsFrom 0 0 l)) × (tokens ≡ putIf (place .write) tokens₀ (tokenSize * place .first) (tokenWords (place .position) (place .number) (tokensOf (cutsFrom 0 0 l))))
 
   pub ended : cutsFrom 0 0 l ≡ cuts (v .done) → Done (Ends (t .n) (t .«open») (t .arrow))
   ended e = (
     (λ i. Ends (sym (v .count) i) (sym (v .depth-is) i) (sym (v .arrow-is) i)) ∙ ap (lineCutsOf d₀) (sym e),
-    v .words ∙ ap (λ (x : Cuts). putIf (place .write) tokens₀ (5 * place .first) (tokenWords (place .position) (place .number) (tokensOf x))) (sym e),
+    v .words ∙ ap (λ (x : Cuts). putIf (place .write) tokens₀ (tokenSize * place .first) (tokenWords (place .position) (place .number) (tokensOf x))) (sym e),
   )
 
   pub stopped : (f : Failure) (m : ℕ) → cutsFrom 0 0 l ≡ stops f → (place .write ≡ true → RoomFor (cutsFrom 0 0 l) (place .first) m) → Done (Stops (failureIn f))
   stopped f m e room = (
     ap (lineCutsOf d₀) (sym e),
-    v .words ∙ putIf-by (place .write) tokens₀ (5 * place .first) (tokenWords (place .position) (place .number) (v .done)) (tokenWords (place .position) (place .number) (tokensOf (cutsFrom 0 0 l)))
+    v .words ∙ putIf-by (place .write) tokens₀ (tokenSize * place .first) (tokenWords (place .position) (place .number) (v .done)) (tokenWords (place .position) (place .number) (tokensOf (cutsFrom 0 0 l)))
         (λ w. absurd (subst (λ (x : Cuts). RoomFor x (place .first) m) e (room w))),
   )
 

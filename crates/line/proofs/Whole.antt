@@ -12,7 +12,7 @@ use Rattle.rules.specs.Lists.{if_then_else_}
 use Rattle.rules.specs.Kinds.{Indent, Newline}
 use Rattle.rules.specs.Failure.{Failure, failure, badIndent}
 use Rattle.rules.specs.Line.{Token, tokenAt, dedents, Cuts, cuts, stops, cutsFrom, depthAfter, arrowAfter, State, Levels, levels, unequal, tooDeep, indentSize, levelsOf, failed, overLimit, LineReply, lineReads, lineHalts, withCuts, withLevels, readLine}
-use Rattle.rules.specs.Records.{tokenWords}
+use Rattle.rules.specs.Records.{widthWords, tokenSize, tokenWords}
 use Rattle.rules.proofs.RecordLaws.{length-tokenWords}
 use Rattle.rules.proofs.BoundLaws.{cuts-ok}
 use Rattle.laws.specs.Puts.{putIf}
@@ -44,10 +44,10 @@ pub indent-words : (p l : ℕ) → tokenWords p l (tokenAt Indent 0 0 ∷ []) �
 unfolding tokenWords
 indent-words p l = rw add-zero
 
-pub lead-le : (lead : Lead) → lead .closes ≤ 16 → length (leading lead) ≤ 16
+pub lead-le : (lead : Lead) → lead .closes ≤ widthWords → length (leading lead) ≤ widthWords
 lead-le lead h = go (lead .opens)
   where
-    go : (b : Bool) → length (if b then tokenAt Indent 0 0 ∷ [] else dedents (lead .closes)) ≤ 16
+    go : (b : Bool) → length (if b then tokenAt Indent 0 0 ∷ [] else dedents (lead .closes)) ≤ widthWords
     go true = omega arith
     go false = omega (arith, length-replicate (lead .closes) (tokenAt 91 0 0))
 
@@ -65,7 +65,7 @@ pub few-tokens : (line : List ℕ) (ts : List Token) → cutsFrom 0 0 line ≡ c
 few-tokens line ts e = cuts-ok 0 0 line ts e .0
 
 module _ (lead : Lead) (line : List ℕ) (k n : ℕ) where
-  pub room-lead : (x : Cuts) → RoomFor (wholeLine lead line x) k n → 5 * (k + length (leading lead)) ≤ n
+  pub room-lead : (x : Cuts) → RoomFor (wholeLine lead line x) k n → tokenSize * (k + length (leading lead)) ≤ n
   room-lead (cuts ts) h = omega (arith, h, length-append (leading lead) (ts ++ (tokenAt Newline (length line) 0 ∷ [])))
   room-lead (stops f) h = absurd h
 
@@ -74,7 +74,7 @@ module _ (lead : Lead) (line : List ℕ) (k n : ℕ) where
       omega (arith, h, length-append (leading lead) (ts ++ (tokenAt Newline (length line) 0 ∷ [])), length-append ts (tokenAt Newline (length line) 0 ∷ []))
   room-inside (stops f) h = h
 
-  pub room-end : (x : Cuts) (ts : List Token) → x ≡ cuts ts → RoomFor (wholeLine lead line x) k n → 5 * (k + length (leading lead) + length ts) + 5 ≤ n
+  pub room-end : (x : Cuts) (ts : List Token) → x ≡ cuts ts → RoomFor (wholeLine lead line x) k n → tokenSize * (k + length (leading lead) + length ts) + 5 ≤ n
   room-end x ts e h =
       let g = subst (λ (y : Cuts). RoomFor (wholeLine lead line y) k n) e h in
       omega (arith, g, length-append (leading lead) (ts ++ (tokenAt Newline (length line) 0 ∷ [])), length-append ts (tokenAt Newline (length line) 0 ∷ []))
@@ -83,36 +83,36 @@ module _ (lead : Lead) (line : List ℕ) (k n : ℕ) where
 
 module _ (lead : Lead) (line : List ℕ) (p l k m : ℕ) (w : Bool) (t₀ t₁ t₂ : List ℕ) (x : Cuts)
     (many : m ≡ length (leading lead))
-    (e₁ : t₁ ≡ putIf w t₀ (5 * k) (tokenWords p l (leading lead)))
-    (e₂ : t₂ ≡ putIf w t₁ (5 * (k + m)) (tokenWords p l (tokensOf x)))
+    (e₁ : t₁ ≡ putIf w t₀ (tokenSize * k) (tokenWords p l (leading lead)))
+    (e₂ : t₂ ≡ putIf w t₁ (tokenSize * (k + m)) (tokenWords p l (tokensOf x)))
   where
-    joined : t₂ ≡ putIf w t₀ (5 * k) (tokenWords p l (leading lead ++ tokensOf x))
+    joined : t₂ ≡ putIf w t₀ (tokenSize * k) (tokenWords p l (leading lead ++ tokensOf x))
     joined =
-        e₂ ∙ ap (λ (t : List ℕ). putIf w t (5 * (k + m)) (tokenWords p l (tokensOf x))) e₁
-        ∙ putIf-append w t₀ (5 * k) (5 * (k + m)) (tokenWords p l (leading lead)) (tokenWords p l (tokensOf x)) (omega (arith, length-tokenWords p l (leading lead)))
-        ∙ ap (putIf w t₀ (5 * k)) (sym (words-append p l (leading lead) (tokensOf x)))
+        e₂ ∙ ap (λ (t : List ℕ). putIf w t (tokenSize * (k + m)) (tokenWords p l (tokensOf x))) e₁
+        ∙ putIf-append w t₀ (tokenSize * k) (tokenSize * (k + m)) (tokenWords p l (leading lead)) (tokenWords p l (tokensOf x)) (omega (arith, length-tokenWords p l (leading lead)))
+        ∙ ap (putIf w t₀ (tokenSize * k)) (sym (words-append p l (leading lead) (tokensOf x)))
 
     pub whole-ends : (ts : List Token) (n : ℕ) (t₃ : List ℕ) → x ≡ cuts ts → length ts ≡ n
-        → t₃ ≡ putIf w t₂ (5 * (k + m + n)) (Newline ∷ (p + length line) ∷ 0 ∷ l ∷ (length line + 1) ∷ [])
-        → t₃ ≡ putIf w t₀ (5 * k) (tokenWords p l (tokensOf (wholeLine lead line x)))
+        → t₃ ≡ putIf w t₂ (tokenSize * (k + m + n)) (Newline ∷ (p + length line) ∷ 0 ∷ l ∷ (length line + 1) ∷ [])
+        → t₃ ≡ putIf w t₀ (tokenSize * k) (tokenWords p l (tokensOf (wholeLine lead line x)))
     unfolding tokenWords
     whole-ends ts n t₃ e count e₃ =
         let end : List ℕ = Newline ∷ (p + length line) ∷ 0 ∷ l ∷ (length line + 1) ∷ [] in
         let nl : List Token = tokenAt Newline (length line) 0 ∷ [] in
         let two : List ℕ = tokenWords p l (leading lead ++ ts) in
-        let two-is : t₂ ≡ putIf w t₀ (5 * k) two = joined ∙ ap (λ (y : Cuts). putIf w t₀ (5 * k) (tokenWords p l (leading lead ++ tokensOf y))) e in
-        let long : 5 * (k + m + n) ≡ 5 * k + length two = omega (arith, length-tokenWords p l (leading lead ++ ts), length-append (leading lead) ts) in
+        let two-is : t₂ ≡ putIf w t₀ (tokenSize * k) two = joined ∙ ap (λ (y : Cuts). putIf w t₀ (tokenSize * k) (tokenWords p l (leading lead ++ tokensOf y))) e in
+        let long : tokenSize * (k + m + n) ≡ tokenSize * k + length two = omega (arith, length-tokenWords p l (leading lead ++ ts), length-append (leading lead) ts) in
         let end-is : end ≡ tokenWords p l nl = ap (λ (i : ℕ). Newline ∷ (p + length line) ∷ 0 ∷ l ∷ i ∷ []) (add-one (length line)) in
-        e₃ ∙ ap (λ (t : List ℕ). putIf w t (5 * (k + m + n)) end) two-is
-        ∙ putIf-append w t₀ (5 * k) (5 * (k + m + n)) two end long
-        ∙ ap (λ (v : List ℕ). putIf w t₀ (5 * k) (two ++ v)) end-is
-        ∙ ap (putIf w t₀ (5 * k)) (sym (words-append p l (leading lead ++ ts) nl) ∙ ap (tokenWords p l) (append-assoc (leading lead) ts nl))
-        ∙ ap (λ (y : Cuts). putIf w t₀ (5 * k) (tokenWords p l (tokensOf (wholeLine lead line y)))) (sym e)
+        e₃ ∙ ap (λ (t : List ℕ). putIf w t (tokenSize * (k + m + n)) end) two-is
+        ∙ putIf-append w t₀ (tokenSize * k) (tokenSize * (k + m + n)) two end long
+        ∙ ap (λ (v : List ℕ). putIf w t₀ (tokenSize * k) (two ++ v)) end-is
+        ∙ ap (putIf w t₀ (tokenSize * k)) (sym (words-append p l (leading lead ++ ts) nl) ∙ ap (tokenWords p l) (append-assoc (leading lead) ts nl))
+        ∙ ap (λ (y : Cuts). putIf w t₀ (tokenSize * k) (tokenWords p l (tokensOf (wholeLine lead line y)))) (sym e)
 
     pub whole-stops : (n : ℕ) (f : Failure) → x ≡ stops f → (w ≡ true → RoomFor (wholeLine lead line x) k n)
-        → t₂ ≡ putIf w t₀ (5 * k) (tokenWords p l (tokensOf (wholeLine lead line x)))
+        → t₂ ≡ putIf w t₀ (tokenSize * k) (tokenWords p l (tokensOf (wholeLine lead line x)))
     whole-stops n f e room =
-        joined ∙ putIf-by w t₀ (5 * k) (tokenWords p l (leading lead ++ tokensOf x)) (tokenWords p l (tokensOf (wholeLine lead line x)))
+        joined ∙ putIf-by w t₀ (tokenSize * k) (tokenWords p l (leading lead ++ tokensOf x)) (tokenWords p l (tokensOf (wholeLine lead line x)))
         (λ h. absurd (subst (λ (y : Cuts). RoomFor (wholeLine lead line y) k n) e (room h)))
 
 -- The reply of a line whose levels are known.
@@ -168,7 +168,7 @@ module _ (st : State) (line : List ℕ) where
     pub line-room : (k n : ℕ) → RoomIn (readLine 16 st line) k n → RoomFor (wholeLine lead line (cutsFrom 0 0 line)) k n
     line-room k n h = reply-room (cutsFrom 0 0 line) k n (subst (λ (x : LineReply). RoomIn x k n) known h)
 
-pub levels-within : (lead : Lead) (x : LineCuts) (r : LineRead) → r ≡ lineReadOf lead x → lead .levels ≤ 16 → LevelsWithin r
+pub levels-within : (lead : Lead) (x : LineCuts) (r : LineRead) → r ≡ lineReadOf lead x → lead .levels ≤ widthWords → LevelsWithin r
 levels-within lead x r e h = subst LevelsWithin (sym e) (go x)
   where
     go : (y : LineCuts) → LevelsWithin (lineReadOf lead y)

@@ -10,7 +10,9 @@ use Rattle.rules.specs.Kinds.{Implies, Newline}
 use Rattle.rules.specs.Line.{Token, tokenAt, Cuts, cuts, stops, depthAfter, arrowAfter, State, Halt, failed, overLimit, LineReply, lineReads, lineHalts}
 use Rattle.cut.specs.Cuts.{failureOf}
 use Rattle.cut.specs.declared.Failure.{Failure}
-use Rattle.line.specs.States.{stateOf, leading, depthBy}
+use Rattle.rules.specs.Records.{widthWords, tokenSize}
+use Rattle.records.specs.States.{stateOf}
+use Rattle.line.specs.States.{leading, depthBy}
 use Rattle.line.specs.declared.Lead.{Lead}
 use Rattle.line.specs.declared.Place.{Place}
 use Rattle.line.specs.declared.Cursor.{Cursor}
@@ -33,7 +35,7 @@ tokensOf (stops f) = []
 
 -- no failure, and n words hold the tokens from record k on
 abbrev pub RoomFor : Cuts → (k n : ℕ) → Type 0
-RoomFor (cuts ts) k n = 5 * (k + length ts) ≤ n
+RoomFor (cuts ts) k n = tokenSize * (k + length ts) ≤ n
 RoomFor (stops f) k n = ⊥
 
 -- the cursor before the first token, past a blank byte, and past a token of this kind and length
@@ -70,7 +72,7 @@ tokensIn (lineHalts h) = []
 
 -- the line reads, and n words hold its tokens from record k on
 abbrev pub RoomIn : LineReply → (k n : ℕ) → Type 0
-RoomIn (lineReads ts s) k n = 5 * (k + length ts) ≤ n
+RoomIn (lineReads ts s) k n = tokenSize * (k + length ts) ≤ n
 RoomIn (lineHalts h) k n = ⊥
 
 -- with its tokens counted
@@ -89,6 +91,6 @@ countedOf (Fails f) ws = countedHalts (failed (failureOf f))
 countedOf TooDeep ws = countedHalts overLimit
 
 abbrev pub LevelsWithin : LineRead → Type 0
-LevelsWithin (Reads n s) = s .levels ≤ 16
+LevelsWithin (Reads n s) = s .levels ≤ widthWords
 LevelsWithin (Fails f) = Unit {0}
 LevelsWithin TooDeep = Unit {0}

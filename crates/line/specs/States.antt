@@ -8,14 +8,10 @@ use lib.ListN.{length, take}
 use Rattle.rules.specs.Lists.{if_then_else_, ascii, begins, overwrite}
 use Rattle.rules.specs.Kinds.{LParen, RParen, Indent}
 use Rattle.rules.specs.Line as rules-line
-use Rattle.line.specs.declared.State.{State}
+use Rattle.rules.specs.Records.{widthWords}
 use Rattle.line.specs.declared.Lead.{Lead}
 use Rattle.line.specs.declared.Compared.{Compared}
 use Rattle.line.specs.declared.Compared.the-variants.{Levels, Unequal, TooDeep}
-
--- the state before a line: the code keeps the widths beside it, those of the open levels at the front
-abbrev pub stateOf : State → (widths : List ℕ) → rules-line.State
-stateOf s ws = record { depth = s .depth; arrow = s .arrow; widths = take (s .levels) ws }
 
 -- what stands at a line's start: an Indent, or Dedents
 abbrev pub leading : Lead → List rules-line.Token
@@ -34,7 +30,7 @@ widthsAfter rules-line.Levels.tooDeep ws = ws
 
 -- at most 16 levels open and as many closed
 abbrev pub Within : Compared → Type 0
-Within (Levels l) = (l .levels ≤ 16) × (l .closes ≤ 16)
+Within (Levels l) = (l .levels ≤ widthWords) × (l .closes ≤ widthWords)
 Within Unequal = Unit {0}
 Within TooDeep = Unit {0}
 

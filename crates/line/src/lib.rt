@@ -4,26 +4,19 @@ ghost use mathlib.Core.Bool.{true, not, _&&_, _||_};
 ghost use mathlib.Core.List.{[], _∷_};
 ghost use Prim.Native.Nat.{_+_, _-_, _*_, _/_, _%_, _≤_, _<_};
 ghost use lib.ListN.{length, drop, take};
-ghost use lib.Seq.{sets};
 ghost use Rattle.rules.specs.Lists.{ascii, begins, run, trimEnd, lastD};
 ghost use Rattle.rules.specs.Tables.{isBlank, letterClass};
 ghost use Rattle.rules.specs.Line.{movedBy, isSpace, isTab, indentWidth, indentSize, isBlankLine, isCompared, compared, levelsOf, dedents, cutsFrom, readLine};
-ghost use Rattle.rules.specs.Records.{tokenWords};
+ghost use Rattle.rules.specs.Records.{widthWords, tokenSize, tokenWords};
 ghost use lib.Dec.{ltb, eqb};
 ghost use Rattle.cut.specs.Cuts.{failureOf};
 ghost use Rattle.spelling.specs.Bytes.{classTable, reachTable};
 ghost use Rattle.spelling.specs.Rows.{keywordTable};
 ghost use Rattle.spelling.specs.Signs.{signTable, signIndexTable};
-ghost use Rattle.line.specs.States.{stateOf, leading, comparedOf, widthsAfter, Within, depthBy, endsOrComment};
+ghost use Rattle.records.specs.States.{stateOf};
+ghost use Rattle.line.specs.States.{leading, comparedOf, widthsAfter, Within, depthBy, endsOrComment};
 ghost use Rattle.line.specs.LineCuts.{lineCutsOf, tokensOf, RoomFor, failureIn, cursorAt, blankPast, tokenPast, wordsAt, wholeLine, lineReadOf, tokensIn, RoomIn, counted, countedOf, LevelsWithin};
 ghost use Rattle.laws.specs.Puts.{putIf};
-
-// The state before a line; the widths of its open levels stand beside it, outermost first.
-pub struct State {
-    pub depth: u32,
-    pub arrow: bool,
-    pub levels: usize,
-}
 
 // What a line's width gives: an Indent, or so many Dedents, and the levels then open.
 pub struct Lead {
@@ -179,7 +172,7 @@ fn width_behind(line: &[u8], spaces: usize) -> u32
 
 // The innermost width, 0 at base.
 fn innermost(widths: &[u32], levels: usize) -> u32
-    requires { ⌜ (length (now widths) ≡ 16) × (levels ≤ 16) ⌝ }
+    requires { ⌜ (length (now widths) ≡ widthWords) × (levels ≤ widthWords) ⌝ }
     ensures { λ r. ⌜ r ≡ lastD (take levels (now (widths .entry))) 0 ⌝ }
 {
     if levels == 0 {
@@ -190,7 +183,7 @@ fn innermost(widths: &[u32], levels: usize) -> u32
 
 // The levels that are left when those wider than the line are popped.
 fn levels_left(widths: &[u32], levels: usize, width: u32) -> usize
-    requires { ⌜ (length (now widths) ≡ 16) × (levels ≤ 16) ⌝ }
+    requires { ⌜ (length (now widths) ≡ widthWords) × (levels ≤ widthWords) ⌝ }
     ensures { λ r. ⌜ (r ≤ levels) × (take r (now (widths .entry)) ≡ trimEnd (ltb width) (take levels (now (widths .entry)))) ⌝ }
 {
     let mut left = levels;
@@ -205,7 +198,7 @@ fn levels_left(widths: &[u32], levels: usize, width: u32) -> usize
 
 // The line's width compared with the open levels; a wider one is pushed.
 fn compare_levels(widths: &mut [u32], levels: usize, width: u32) -> Compared
-    requires { ⌜ (length (now widths) ≡ 16) × (levels ≤ 16) ⌝ }
+    requires { ⌜ (length (now widths) ≡ widthWords) × (levels ≤ widthWords) ⌝ }
     ensures { λ r. ⌜ comparedOf r (now (widths .exit)) ≡ compared 16 width (take levels (now (widths .entry))) ⌝ }
     ensures { λ r. ⌜ Within r ⌝ }
     ensures { λ _. ⌜ now (widths .exit) ≡ widthsAfter (compared 16 width (take levels (now (widths .entry)))) (now (widths .entry)) ⌝ }
@@ -233,7 +226,7 @@ fn compare_levels(widths: &mut [u32], levels: usize, width: u32) -> Compared
 }
 
 // The line's width is compared: it is not blank, no bracket is open and no arrow is carried.
-fn is_compared(line: &[u8], spaces: usize, s: State) -> bool
+fn is_compared(line: &[u8], spaces: usize, s: records::State) -> bool
     requires { ⌜ spaces ≡ run isSpace (now line) ⌝ }
     ensures { λ r. ⌜ r ≡ isCompared (stateOf s []) (now (line .entry)) ⌝ }
 {
@@ -247,8 +240,8 @@ fn is_compared(line: &[u8], spaces: usize, s: State) -> bool
 }
 
 // The levels at the start of a line that begins with so many spaces.
-pub fn levels_of(line: &[u8], spaces: usize, s: State, widths: &mut [u32]) -> Compared
-    requires { ⌜ (length (now line) ≤ 1_048_576) × (length (now widths) ≡ 16) × (s .levels ≤ 16) ⌝ }
+pub fn levels_of(line: &[u8], spaces: usize, s: records::State, widths: &mut [u32]) -> Compared
+    requires { ⌜ (length (now line) ≤ 1_048_576) × (length (now widths) ≡ widthWords) × (s .levels ≤ widthWords) ⌝ }
     requires { ⌜ spaces ≡ run isSpace (now line) ⌝ }
     ensures { λ r. ⌜ comparedOf r (now (widths .exit)) ≡ levelsOf 16 (stateOf s (now (widths .entry))) (now (line .entry)) ⌝ }
     ensures { λ r. ⌜ Within r ⌝ }
@@ -265,38 +258,6 @@ pub fn levels_of(line: &[u8], spaces: usize, s: State, widths: &mut [u32]) -> Co
     })
 }
 
-// Five words from an index on.
-pub fn put_five(words: &mut [u32], at: usize, a: u32, b: u32, c: u32, d: u32, e: u32)
-    requires { ⌜ at + 5 ≤ length (now words) ⌝ }
-    ensures { λ _. ⌜ now (words .exit) ≡ sets (now (words .entry)) at (a ∷ b ∷ c ∷ d ∷ e ∷ []) ⌝ }
-{
-    words[at] = a;
-    words[at + 1] = b;
-    words[at + 2] = c;
-    words[at + 3] = d;
-    words[at + 4] = e;
-}
-
-// Token record k, where the pass writes: kind, position, length, line, column.
-pub fn put_token(
-    tokens: &mut [u32],
-    write: bool,
-    k: usize,
-    kind: u32,
-    position: u32,
-    size: u32,
-    number: u32,
-    column: u32,
-)
-    requires { ⌜ (write ≡ true → 5 * k + 5 ≤ length (now tokens)) ⌝ }
-    ensures { λ _. ⌜ now (tokens .exit) ≡ putIf write (now (tokens .entry)) (5 * k) (kind ∷ position ∷ size ∷ number ∷ column ∷ []) ⌝ }
-{
-    if !write {
-        return;
-    }
-    put_five(tokens, 5 * k, kind, position, size, number, column);
-}
-
 // So many Dedents from record k on, where the pass writes, at this position and line, column 1.
 pub fn put_dedents(
     tokens: &mut [u32],
@@ -306,12 +267,12 @@ pub fn put_dedents(
     position: u32,
     number: u32,
 )
-    requires { ⌜ (k + count ≤ 4_194_304) × (write ≡ true → 5 * (k + count) ≤ length (now tokens)) ⌝ }
-    ensures { λ _. ⌜ now (tokens .exit) ≡ putIf write (now (tokens .entry)) (5 * k) (tokenWords position number (dedents count)) ⌝ }
+    requires { ⌜ (k + count ≤ 4_194_304) × (write ≡ true → tokenSize * (k + count) ≤ length (now tokens)) ⌝ }
+    ensures { λ _. ⌜ now (tokens .exit) ≡ putIf write (now (tokens .entry)) (tokenSize * k) (tokenWords position number (dedents count)) ⌝ }
 {
     let mut j: usize = 0;
     while j < count {
-        put_token(tokens, write, k + j, 91, position, 0, number, 1);
+        records::put_token(tokens, write, k + j, 91, position, 0, number, 1);
         j += 1;
     }
 }
@@ -377,12 +338,12 @@ fn past_blank(t: Cursor) -> Cursor
 // Past a token of this kind and length, which is put into its record where the pass writes.
 fn past_token(tokens: &mut [u32], place: Place, t: Cursor, kind: u32, size: usize) -> Cursor
     requires { ⌜ (place .position + (t .at + size) ≤ 1_048_576) × ((place .first + t .n ≤ 8_388_608) × (t .open ≤ 8_388_608)) ⌝ }
-    requires { ⌜ (place .write ≡ true → 5 * (place .first + t .n) + 5 ≤ length (now tokens)) ⌝ }
+    requires { ⌜ (place .write ≡ true → tokenSize * (place .first + t .n) + tokenSize ≤ length (now tokens)) ⌝ }
     ensures { λ r. ⌜ r ≡ tokenPast t kind size ⌝ }
-    ensures { λ _. ⌜ now (tokens .exit) ≡ putIf (place .write) (now (tokens .entry)) (5 * (place .first + t .n)) (wordsAt place (t .at) kind size) ⌝ }
+    ensures { λ _. ⌜ now (tokens .exit) ≡ putIf (place .write) (now (tokens .entry)) (tokenSize * (place .first + t .n)) (wordsAt place (t .at) kind size) ⌝ }
 {
     let offset = t.at as u32;
-    put_token(
+    records::put_token(
         tokens,
         place.write,
         place.first + t.n,
@@ -403,9 +364,9 @@ fn past_token(tokens: &mut [u32], place: Place, t: Cursor, kind: u32, size: usiz
 // Past the sign of this code. Most signs have one byte; that length is known without waiting for the code.
 fn past_sign(tokens: &mut [u32], place: Place, t: Cursor, code: u32) -> Cursor
     requires { ⌜ (place .position + (t .at + (code / 128 + 1)) ≤ 1_048_576) × ((place .first + t .n ≤ 8_388_608) × (t .open ≤ 8_388_608)) ⌝ }
-    requires { ⌜ (place .write ≡ true → 5 * (place .first + t .n) + 5 ≤ length (now tokens)) ⌝ }
+    requires { ⌜ (place .write ≡ true → tokenSize * (place .first + t .n) + tokenSize ≤ length (now tokens)) ⌝ }
     ensures { λ r. ⌜ r ≡ tokenPast t (code % 128) (code / 128 + 1) ⌝ }
-    ensures { λ _. ⌜ now (tokens .exit) ≡ putIf (place .write) (now (tokens .entry)) (5 * (place .first + t .n)) (wordsAt place (t .at) (code % 128) (code / 128 + 1)) ⌝ }
+    ensures { λ _. ⌜ now (tokens .exit) ≡ putIf (place .write) (now (tokens .entry)) (tokenSize * (place .first + t .n)) (wordsAt place (t .at) (code % 128) (code / 128 + 1)) ⌝ }
 {
     if code < 128 {
         return past_token(tokens, place, t, code, 1);
@@ -466,7 +427,7 @@ fn cut_line(
     requires { ⌜ (place .position + length (now line) ≤ 1_048_576) × ((depth ≤ 4_194_304) × (place .first ≤ 4_194_304)) ⌝ }
     requires { ⌜ (place .write ≡ true → RoomFor (cutsFrom 0 0 (now line)) (place .first) (length (now tokens))) ⌝ }
     ensures { λ r. ⌜ r ≡ lineCutsOf depth (cutsFrom 0 0 (now (line .entry))) ⌝ }
-    ensures { λ _. ⌜ now (tokens .exit) ≡ putIf (place .write) (now (tokens .entry)) (5 * place .first) (tokenWords (place .position) (place .number) (tokensOf (cutsFrom 0 0 (now (line .entry))))) ⌝ }
+    ensures { λ _. ⌜ now (tokens .exit) ≡ putIf (place .write) (now (tokens .entry)) (tokenSize * place .first) (tokenWords (place .position) (place .number) (tokensOf (cutsFrom 0 0 (now (line .entry))))) ⌝ }
 {
     let mut t = cursor_at(spaces, depth);
     while t.at < line.len() {
@@ -524,12 +485,12 @@ fn put_leading(
     position: u32,
     number: u32,
 ) -> usize
-    requires { ⌜ (k ≤ 4_000_000) × (lead .closes ≤ 16) × (write ≡ true → 5 * (k + length (leading lead)) ≤ length (now tokens)) ⌝ }
+    requires { ⌜ (k ≤ 4_000_000) × (lead .closes ≤ widthWords) × (write ≡ true → tokenSize * (k + length (leading lead)) ≤ length (now tokens)) ⌝ }
     ensures { λ r. ⌜ r ≡ length (leading lead) ⌝ }
-    ensures { λ _. ⌜ now (tokens .exit) ≡ putIf write (now (tokens .entry)) (5 * k) (tokenWords position number (leading lead)) ⌝ }
+    ensures { λ _. ⌜ now (tokens .exit) ≡ putIf write (now (tokens .entry)) (tokenSize * k) (tokenWords position number (leading lead)) ⌝ }
 {
     if lead.opens {
-        put_token(tokens, write, k, 90, position, 0, number, 1);
+        records::put_token(tokens, write, k, 90, position, 0, number, 1);
         return 1;
     }
     put_dedents(tokens, write, k, lead.closes, position, number);
@@ -538,7 +499,7 @@ fn put_leading(
 
 // What a line gives: the number of its tokens and the state after it; or its failure; or a level too many.
 pub enum LineRead {
-    Reads(usize, State),
+    Reads(usize, records::State),
     Fails(cut::Failure),
     TooDeep,
 }
@@ -563,10 +524,10 @@ fn cut_after(
     requires { ⌜ now signs ≡ signTable ⌝ }
     requires { ⌜ now keywords ≡ keywordTable ⌝ }
     requires { ⌜ (place .position + length (now line) ≤ 1_048_576) × ((depth ≤ 4_194_304) × (place .first ≤ 3_000_000)) ⌝ }
-    requires { ⌜ (lead .closes ≤ 16) × (spaces ≡ run isSpace (now line)) ⌝ }
+    requires { ⌜ (lead .closes ≤ widthWords) × (spaces ≡ run isSpace (now line)) ⌝ }
     requires { ⌜ (place .write ≡ true → RoomFor (wholeLine lead (now line) (cutsFrom 0 0 (now line))) (place .first) (length (now tokens))) ⌝ }
     ensures { λ r. ⌜ r ≡ lineReadOf lead (lineCutsOf depth (cutsFrom 0 0 (now (line .entry)))) ⌝ }
-    ensures { λ _. ⌜ now (tokens .exit) ≡ putIf (place .write) (now (tokens .entry)) (5 * place .first) (tokenWords (place .position) (place .number) (tokensOf (wholeLine lead (now (line .entry)) (cutsFrom 0 0 (now (line .entry)))))) ⌝ }
+    ensures { λ _. ⌜ now (tokens .exit) ≡ putIf (place .write) (now (tokens .entry)) (tokenSize * place .first) (tokenWords (place .position) (place .number) (tokensOf (wholeLine lead (now (line .entry)) (cutsFrom 0 0 (now (line .entry)))))) ⌝ }
 {
     let m = put_leading(
         tokens,
@@ -596,7 +557,7 @@ fn cut_after(
     ) {
         LineCuts::Ends(n, open, arrow) => {
             let size = line.len() as u32;
-            put_token(
+            records::put_token(
                 tokens,
                 place.write,
                 place.first + m + n,
@@ -608,7 +569,7 @@ fn cut_after(
             );
             LineRead::Reads(
                 m + n + 1,
-                State {
+                records::State {
                     depth: open,
                     arrow: arrow,
                     levels: lead.levels,
@@ -633,7 +594,7 @@ pub fn read_line(
     position: u32,
     number: u32,
     widths: &mut [u32],
-    s: State,
+    s: records::State,
 ) -> LineRead
     requires { ⌜ now class ≡ classTable ⌝ }
     requires { ⌜ now reach ≡ reachTable ⌝ }
@@ -641,12 +602,12 @@ pub fn read_line(
     requires { ⌜ now signs ≡ signTable ⌝ }
     requires { ⌜ now keywords ≡ keywordTable ⌝ }
     requires { ⌜ (position + length (now line) ≤ 1_048_576) × ((s .depth ≤ 4_194_304) × (k ≤ 3_000_000)) ⌝ }
-    requires { ⌜ (length (now widths) ≡ 16) × (s .levels ≤ 16) ⌝ }
+    requires { ⌜ (length (now widths) ≡ widthWords) × (s .levels ≤ widthWords) ⌝ }
     requires { ⌜ (write ≡ true → RoomIn (readLine 16 (stateOf s (now widths)) (now line)) k (length (now tokens))) ⌝ }
     ensures { λ r. ⌜ countedOf r (now (widths .exit)) ≡ counted (readLine 16 (stateOf s (now (widths .entry))) (now (line .entry))) ⌝ }
     ensures { λ r. ⌜ LevelsWithin r ⌝ }
     ensures { λ _. ⌜ now (widths .exit) ≡ widthsAfter (levelsOf 16 (stateOf s (now (widths .entry))) (now (line .entry))) (now (widths .entry)) ⌝ }
-    ensures { λ _. ⌜ now (tokens .exit) ≡ putIf write (now (tokens .entry)) (5 * k) (tokenWords position number (tokensIn (readLine 16 (stateOf s (now (widths .entry))) (now (line .entry))))) ⌝ }
+    ensures { λ _. ⌜ now (tokens .exit) ≡ putIf write (now (tokens .entry)) (tokenSize * k) (tokenWords position number (tokensIn (readLine 16 (stateOf s (now (widths .entry))) (now (line .entry))))) ⌝ }
 {
     let depth = s.depth;
     let spaces = leading_spaces(reach, line);

@@ -13,12 +13,13 @@ use Rattle.rules.specs.Lists.{if_then_else_, run}
 use Rattle.rules.specs.Line as rules-line
 use Rattle.rules.specs.Line.{initial, Token, Halt, failed, overLimit, LineReply, lineReads, lineHalts, readLine}
 use Rattle.rules.specs.Reading.{notLF, Entry, entry, tokenSum, lineAt, sizeAt}
+use Rattle.rules.specs.Records.{widthWords}
 use Rattle.rules.proofs.LineLaws.{firstSize-le, firstSize-lf, firstSize-end, firstSize-some}
 use Rattle.rules.proofs.ReadingLaws.{tokenSum-append}
 use Rattle.rules.proofs.LoopLaws.{ReadTo, read-start, read-line}
 use Rattle.rules.proofs.BoundLaws.{GrownTo, read-grown, read-small}
-use Rattle.line.specs.declared.State.{State}
-use Rattle.line.specs.States.{stateOf}
+use Rattle.records.specs.declared.State.{State}
+use Rattle.records.specs.States.{stateOf}
 use Rattle.line.specs.LineCuts.{countedReads, countedHalts, counted, countedOf}
 use Rattle.line.specs.declared.LineRead.{LineRead}
 use Rattle.line.specs.declared.LineRead.the-variants as line-variants
@@ -65,10 +66,10 @@ pub record PassTo (t : List ℕ) (z₀ : rules-line.State) (es : List Entry) (wi
   pub inside : p ≤ length t
   pub count : length es ≡ m
   pub sum : tokenSum es ≡ k
-  pub few : s .levels ≤ 16
-  pub wide : length widths ≡ 16
+  pub few : s .levels ≤ widthWords
+  pub wide : length widths ≡ widthWords
 
-pub pass-start : (t widths : List ℕ) (s : State) → s .levels ≤ 16 → length widths ≡ 16 → PassTo t (stateOf s widths) [] widths 0 0 0 s
+pub pass-start : (t widths : List ℕ) (s : State) → s .levels ≤ widthWords → length widths ≡ widthWords → PassTo t (stateOf s widths) [] widths 0 0 0 s
 unfolding tokenSum
 pass-start t widths s few wide =
     record { to = read-start 16 (stateOf s widths) t; inside = omega arith; count = refl; sum = refl; few = few; wide = wide }
@@ -92,7 +93,7 @@ module _ {t : List ℕ} {z₀ : rules-line.State} {es : List Entry} {widths : Li
 
     -- the next line is read
     pub next-pass : (ts : List Token) (s′ : State) (widths′ : List ℕ) (n q : ℕ) → readLine 16 z (lineAt t p) ≡ lineReads ts (stateOf s′ widths′) → n ≡ length ts → q ≡ p + sizeAt t p
-        → s′ .levels ≤ 16 → length widths′ ≡ 16 → PassTo t z₀ (es ++ (entry z (sizeAt t p) ts ∷ [])) widths′ q (m + 1) (k + n) s′
+        → s′ .levels ≤ widthWords → length widths′ ≡ widthWords → PassTo t z₀ (es ++ (entry z (sizeAt t p) ts ∷ [])) widths′ q (m + 1) (k + n) s′
     unfolding tokenSum
     next-pass ts s′ widths′ n q e hn hq few′ wide′ =
         let x : Entry = entry z (sizeAt t p) ts in

@@ -4,18 +4,17 @@ ghost use mathlib.Core.Bool.{true};
 ghost use mathlib.Core.List.{[], _∷_};
 ghost use Prim.Native.Nat.{suc, _+_, _*_, _≤_, _<_};
 ghost use lib.Dec.{ltb};
-ghost use lib.ListN.{length, getD, take, drop};
-ghost use lib.Seq.{sets};
+ghost use lib.ListN.{length, drop};
 ghost use Rattle.rules.specs.Lists.{if_then_else_, run};
 ghost use Rattle.rules.specs.Failure.{detailOf, failureRecord};
 ghost use Rattle.rules.specs.Line.{readLine};
 ghost use Rattle.rules.specs.Reading.{notLF, lineAt, sizeAt};
-ghost use Rattle.rules.specs.Records.{packed, lineRecord, tokenWords};
+ghost use Rattle.rules.specs.Records.{widthWords, lineSize, tokenSize, lineRecord, tokenWords};
 ghost use Rattle.spelling.specs.Bytes.{classTable, reachTable};
 ghost use Rattle.spelling.specs.Rows.{keywordTable};
 ghost use Rattle.spelling.specs.Signs.{signTable, signIndexTable};
 ghost use Rattle.cut.specs.Cuts.{failureOf};
-ghost use Rattle.line.specs.States.{stateOf};
+ghost use Rattle.records.specs.States.{stateOf};
 ghost use Rattle.line.specs.LineCuts.{tokensIn, RoomIn};
 ghost use Rattle.laws.specs.Puts.{putIf};
 ghost use Rattle.lines.specs.Steps.{recordIn, StepIs};
@@ -38,59 +37,6 @@ pub fn line_end(text: &[u8], at: usize) -> usize
     ensures { λ r. ⌜ r ≡ at + run notLF (drop at (now (text .entry))) ⌝ }
 {
     cut::find_byte(text, at, 10)
-}
-
-// The widths of the open levels, and 0 for each other word.
-fn put_widths(lines: &mut [u32], at: usize, widths: &[u32], levels: usize)
-    requires { ⌜ (length (now widths) ≡ 16) × ((levels ≤ 16) × (at + 16 ≤ length (now lines))) ⌝ }
-    ensures { λ _. ⌜ now (lines .exit) ≡ sets (now (lines .entry)) at (packed (take levels (now (widths .entry)))) ⌝ }
-{
-    let mut i: usize = 0;
-    while i < 16 {
-        lines[at + i] = width_at(widths, levels, i);
-        i += 1;
-    }
-}
-
-// The width of level i, 0 past the open ones.
-pub fn width_at(widths: &[u32], levels: usize, i: usize) -> u32
-    requires { ⌜ (length (now widths) ≡ 16) × ((levels ≤ 16) × (i < 16)) ⌝ }
-    ensures { λ r. ⌜ r ≡ getD (packed (take levels (now (widths .entry)))) i 0 ⌝ }
-{
-    if i < levels {
-        return widths[i];
-    }
-    0
-}
-
-// Line record m, where the pass writes: the start, the first token's number, the state.
-pub fn put_line(
-    lines: &mut [u32],
-    write: bool,
-    m: usize,
-    start: u32,
-    first: u32,
-    s: line::State,
-    widths: &[u32],
-)
-    requires { ⌜ (length (now widths) ≡ 16) × (s .levels ≤ 16) ⌝ }
-    requires { ⌜ (write ≡ true → 21 * m + 21 ≤ length (now lines)) ⌝ }
-    ensures { λ _. ⌜ now (lines .exit) ≡ putIf write (now (lines .entry)) (21 * m) (lineRecord start first (stateOf s (now (widths .entry)))) ⌝ }
-{
-    if !write {
-        return;
-    }
-    let at = 21 * m;
-    line::put_five(
-        lines,
-        at,
-        start,
-        first,
-        s.depth,
-        s.arrow as u32,
-        s.levels as u32,
-    );
-    put_widths(lines, at + 5, widths, s.levels);
 }
 
 // The codes of the details, by number; number 0 is as 1.
@@ -137,7 +83,7 @@ pub fn past_lf(text: &[u8], end: usize) -> usize
 
 // What the next line gives: where the one after it starts, the number of its tokens, the state after it; or its failure; or a level too many.
 pub enum Step {
-    Reads(usize, usize, line::State),
+    Reads(usize, usize, records::State),
     Fails(FailureRecord),
     TooDeep,
 }
@@ -158,7 +104,7 @@ pub fn next_line(
     m: usize,
     k: usize,
     widths: &mut [u32],
-    s: line::State,
+    s: records::State,
 ) -> Step
     requires { ⌜ now class ≡ classTable ⌝ }
     requires { ⌜ now reach ≡ reachTable ⌝ }
@@ -166,14 +112,14 @@ pub fn next_line(
     requires { ⌜ now signs ≡ signTable ⌝ }
     requires { ⌜ now keywords ≡ keywordTable ⌝ }
     requires { ⌜ (at < length (now text)) × ((base + length (now text) ≤ 1_048_576) × ((m ≤ 1_048_576) × (k ≤ 3_000_000))) ⌝ }
-    requires { ⌜ (s .depth ≤ 4_194_304) × ((s .levels ≤ 16) × (length (now widths) ≡ 16)) ⌝ }
-    requires { ⌜ (write ≡ true → (21 * m + 21 ≤ length (now lines)) × RoomIn (readLine 16 (stateOf s (now widths)) (lineAt (now text) at)) k (length (now tokens))) ⌝ }
+    requires { ⌜ (s .depth ≤ 4_194_304) × ((s .levels ≤ widthWords) × (length (now widths) ≡ widthWords)) ⌝ }
+    requires { ⌜ (write ≡ true → (lineSize * m + lineSize ≤ length (now lines)) × RoomIn (readLine 16 (stateOf s (now widths)) (lineAt (now text) at)) k (length (now tokens))) ⌝ }
     ensures { λ r. ⌜ StepIs (now (widths .exit)) (base + at) (m + 1) (at + sizeAt (now (text .entry)) at) (readLine 16 (stateOf s (now (widths .entry))) (lineAt (now (text .entry)) at)) r ⌝ }
-    ensures { λ _. ⌜ now (lines .exit) ≡ putIf write (now (lines .entry)) (21 * m) (lineRecord (base + at) k (stateOf s (now (widths .entry)))) ⌝ }
-    ensures { λ _. ⌜ now (tokens .exit) ≡ putIf write (now (tokens .entry)) (5 * k) (tokenWords (base + at) (m + 1) (tokensIn (readLine 16 (stateOf s (now (widths .entry))) (lineAt (now (text .entry)) at)))) ⌝ }
+    ensures { λ _. ⌜ now (lines .exit) ≡ putIf write (now (lines .entry)) (lineSize * m) (lineRecord (base + at) k (stateOf s (now (widths .entry)))) ⌝ }
+    ensures { λ _. ⌜ now (tokens .exit) ≡ putIf write (now (tokens .entry)) (tokenSize * k) (tokenWords (base + at) (m + 1) (tokensIn (readLine 16 (stateOf s (now (widths .entry))) (lineAt (now (text .entry)) at)))) ⌝ }
 {
     let position = base + at;
-    put_line(lines, write, m, position as u32, k as u32, s, widths);
+    records::put_line(lines, write, m, position as u32, k as u32, s, widths);
     let end = line_end(text, at);
     match line::read_line(
         class,

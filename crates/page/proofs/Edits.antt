@@ -13,7 +13,7 @@ use Rattle.rules.specs.Lists.{overwrite}
 use Rattle.rules.specs.Utf8.{wellFormedPrefix}
 use Rattle.rules.specs.Reading.{linesOf, Reading, byteSum, tokenSum}
 use Rattle.rules.specs.Replies.{maxBytes, maxLevels, barge, Refusal, reading, lexical, atLine, short, outside, unfit, numbered, numberedUnread, failureWords, textBuffer, spareBuffer, linesBuffer, tokensBuffer, refusedIf, firstOf, unless, isTooLong, tooLongBy, isMalformed, malformedBy}
-use Rattle.rules.specs.Records.{lineNeed, tokenNeed, lineRecords, tokenRecords, header, endEntry, withEnd, Records, recordsOf, recordTests, recordedBy, recorded, readLines, Behind}
+use Rattle.rules.specs.Records.{lineSize, tokenSize, lineNeed, tokenNeed, lineRecords, tokenRecords, header, endEntry, withEnd, Records, recordsOf, recordTests, recordedBy, recorded, readLines, Behind}
 use Rattle.rules.specs.Line.{initial}
 use Rattle.rules.specs.Page.{Page, Lent, sizes, fits, pageText, pageRecords, Faithful, headerAfter}
 use Rattle.rules.specs.StopRule.{Edit, edited, rereadCount}
@@ -240,25 +240,25 @@ module _ (q : Lent) (ed : Edit) where
           counted : (p .lines ≡ length (written u lines p)) × (p .tokens ≡ tokenSum (written u lines p))
           counted = written-sizes pl
 
-          tail-lines : length (lineTail u lines m p) ≡ 21 * (p .lines + (m + 1 - p .j))
+          tail-lines : length (lineTail u lines m p) ≡ lineSize * (p .lines + (m + 1 - p .j))
           tail-lines =
               length-append (lineRecords (p .base) (p .first) (written u lines p)) (movedLines (p .old) (p .new) (p .from) (p .first + p .tokens) lines (p .j) (m + 1 - p .j))
               ∙ omega (arith, length-lineRecords (p .base) (p .first) (written u lines p), length-movedLines (p .old) (p .new) (p .from) (p .first + p .tokens) lines (p .j) (m + 1 - p .j), counted .0)
 
-          tail-tokens : length (tokenTail u lines tokens k p) ≡ 5 * (p .tokens + (k - p .from))
+          tail-tokens : length (tokenTail u lines tokens k p) ≡ tokenSize * (p .tokens + (k - p .from))
           tail-tokens =
               length-append (tokenRecords (p .base) (p .i + 1) (written u lines p)) (movedTokens (p .old) (p .new) (p .j + 1) (p .i + p .lines + 1) tokens (p .from) (k - p .from))
               ∙ omega (arith, length-tokenRecords (p .base) (p .i + 1) (written u lines p), length-movedTokens (p .old) (p .new) (p .j + 1) (p .i + p .lines + 1) tokens (p .from) (k - p .from), counted .1)
 
           lines-long : length (r .lines) ≡ lineNeed m′
           lines-long =
-              length-append (take (21 * p .i) lines) (lineTail u lines m p)
-              ∙ omega (arith, length-take-le (21 * p .i) lines (omega (arith, ro .line-room)), tail-lines, pl .some)
+              length-append (take (lineSize * p .i) lines) (lineTail u lines m p)
+              ∙ omega (arith, length-take-le (lineSize * p .i) lines (omega (arith, ro .line-room)), tail-lines, pl .some)
 
           tokens-long : length (r .tokens) ≡ tokenNeed k′
           tokens-long =
-              length-append (take (5 * p .first) tokens) (tokenTail u lines tokens k p)
-              ∙ omega (arith, length-take-le (5 * p .first) tokens (omega (arith, ro .token-room)), tail-tokens)
+              length-append (take (tokenSize * p .first) tokens) (tokenTail u lines tokens k p)
+              ∙ omega (arith, length-take-le (tokenSize * p .first) tokens (omega (arith, ro .token-room)), tail-tokens)
 
           -- on a faithful page these are the records of the edited text
           module _ (bh : Behind t (pageRecords pg)) where
@@ -294,7 +294,7 @@ module _ (q : Lent) (ed : Edit) where
 
           -- the answer and the buffers as the code has them
           pub accept-edit : {r′ : EditAnswer} {text′ lines′ tokens′ : List ℕ} → r′ ≡ Edited size m′ k′ (p .count) → text′ ≡ sets text a (drop a (take size s))
-              → lines′ ≡ sets lines (21 * p .i) (lineTail (take size s) lines m p) → tokens′ ≡ sets tokens (5 * p .first) (tokenTail (take size s) lines tokens k p)
+              → lines′ ≡ sets lines (lineSize * p .i) (lineTail (take size s) lines m p) → tokens′ ≡ sets tokens (tokenSize * p .first) (tokenTail (take size s) lines tokens k p)
               → Answered q ed r′ text′ s lines′ tokens′
           unfolding replyOf after headerAfter
           accept-edit {text′ = text′} {lines′ = lines′} {tokens′ = tokens′} er et el ek =
@@ -302,9 +302,9 @@ module _ (q : Lent) (ed : Edit) where
               let post = clear-post q ed (done r (p .count)) (ok .ranged .fit) open-gate free on-paper in
               let et′ : text′ ≡ overwrite u text = et ∙ ap (λ (x : List ℕ). sets text a (drop a x)) held ∙ back-over text u a (omega (arith, holds)) (omega (arith, es)) (front (ok .ranged)) in
               let el′ : lines′ ≡ overwrite (r .lines) lines =
-              el ∙ ap (λ (x : List ℕ). sets lines (21 * p .i) (lineTail x lines m p)) held ∙ run-over lines (21 * p .i) (lineTail u lines m p) (omega (arith, tail-lines, ro .line-room)) in
+              el ∙ ap (λ (x : List ℕ). sets lines (lineSize * p .i) (lineTail x lines m p)) held ∙ run-over lines (lineSize * p .i) (lineTail u lines m p) (omega (arith, tail-lines, ro .line-room)) in
               let ek′ : tokens′ ≡ overwrite (r .tokens) tokens =
-              ek ∙ ap (λ (x : List ℕ). sets tokens (5 * p .first) (tokenTail x lines tokens k p)) held ∙ run-over tokens (5 * p .first) (tokenTail u lines tokens k p) (omega (arith, tail-tokens, ro .token-room)) in
+              ek ∙ ap (λ (x : List ℕ). sets tokens (tokenSize * p .first) (tokenTail x lines tokens k p)) held ∙ run-over tokens (tokenSize * p .first) (tokenTail u lines tokens k p) (omega (arith, tail-tokens, ro .token-room)) in
               rw er (subst (λ (y : Lent). EditPost q ed (editNumbers (Edited size m′ k′ (p .count))) y)
               (λ x. lent (header size m′ k′) (sym et′ x) (sym (ok .spare-is) x) (sym el′ x) (sym ek′ x)) post)
 

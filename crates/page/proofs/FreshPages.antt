@@ -16,11 +16,11 @@ unfolding overwrite
 none-yet l = refl
 
 module _ (lines : List ℕ) where
-  pub fresh-short : length lines < lineSize → ((5 ∷ linesBuffer ∷ 21 ∷ []) ≡ freshReply (length lines)) × (lines ≡ freshLines lines)
+  pub fresh-short : length lines < lineSize → ((5 ∷ linesBuffer ∷ lineSize ∷ []) ≡ freshReply (length lines)) × (lines ≡ freshLines lines)
   unfolding freshReply freshLines refusedIf unless numbered
   fresh-short h = rw (lt-ltb (length lines) lineSize h) (refl, refl)
 
-  pub fresh-long : lineSize ≤ length lines → (l : List ℕ) → l ≡ overwrite (replicate 21 0) lines → ((0 ∷ 0 ∷ 0 ∷ 0 ∷ []) ≡ freshReply (length lines)) × (l ≡ freshLines lines)
+  pub fresh-long : lineSize ≤ length lines → (l : List ℕ) → l ≡ overwrite (replicate lineSize 0) lines → ((0 ∷ 0 ∷ 0 ∷ 0 ∷ []) ≡ freshReply (length lines)) × (l ≡ freshLines lines)
   unfolding freshReply freshLines refusedIf unless numbered
   fresh-long h l e = rw (le-ltb (length lines) lineSize h) (refl, e)
 

@@ -10,7 +10,7 @@ use lib.Seq.{take-take, drop-append-le, length-take-le}
 use Rattle.rules.specs.Line.{State}
 use Rattle.rules.specs.Reading.{Entry, byteSum, tokenSum}
 use Rattle.rules.specs.Replies.{barge}
-use Rattle.rules.specs.Records.{lineNeed, tokenNeed, lineRecords, tokenRecords, endEntry, withEnd, Records, recordsOf, recordedBy, recorded, readLines, Behind}
+use Rattle.rules.specs.Records.{lineSize, tokenSize, lineNeed, tokenNeed, lineRecords, tokenRecords, endEntry, withEnd, Records, recordsOf, recordedBy, recorded, readLines, Behind}
 use Rattle.rules.specs.Page.{pageText, pageRecords}
 use Rattle.rules.specs.StopRule.{Edit, edited}
 use Rattle.rules.proofs.ReadingLaws.{tokenSum-append}
@@ -100,16 +100,16 @@ module _ (n m k : ℕ) (text lines tokens : List ℕ) (ed : Edit) (bh : Behind (
       let c : m + 1 - p .j ≡ length (drop (p .j) O) = sym (length-drop (p .j) O ∙ omega (arith, long)) in
       let s : 0 + byteSum (take (p .j) O) ≡ p .old = zero-add (byteSum (take (p .j) O)) ∙ sym (x .old-is) in
       let f : 0 + tokenSum (take (p .j) O) ≡ p .from = zero-add (tokenSum (take (p .j) O)) ∙ sym (x .from-is) in
-      let d : drop (21 * p .j) lines ≡ lineRecords (p .old) (p .from) (drop (p .j) O) ++ drop (lineNeed m) lines =
-      cut-tail lines (lineRecords 0 0 O) (lineNeed m) (21 * p .j) lines-are (omega (arith, length-lineRecords 0 0 O, j-le))
+      let d : drop (lineSize * p .j) lines ≡ lineRecords (p .old) (p .from) (drop (p .j) O) ++ drop (lineNeed m) lines =
+      cut-tail lines (lineRecords 0 0 O) (lineNeed m) (lineSize * p .j) lines-are (omega (arith, length-lineRecords 0 0 O, j-le))
       ∙ ap (λ (y : List ℕ). y ++ drop (lineNeed m) lines) (lineRecords-drop 0 0 (p .j) O j-le ∙ (λ y. lineRecords (s y) (f y) (drop (p .j) O))) in
       ap (movedLines (p .old) (p .new) (p .from) (p .first + p .tokens) lines (p .j)) c
       ∙ moved-line-records (p .old) (p .new) (p .from) (p .first + p .tokens) lines (p .j) (drop (p .j) O) (drop (lineNeed m) lines) d lines-small
 
   pub line-words : writtenLines u lines m p ≡ lineRecords 0 0 E
   line-words =
-      let t : take (21 * p .i) lines ≡ lineRecords 0 0 (take (p .i) O) =
-      sym (take-take (21 * p .i) (lineNeed m) lines (omega (arith, pl .i-le))) ∙ ap (take (21 * p .i)) lines-are ∙ lineRecords-take 0 0 (p .i) O i-le in
+      let t : take (lineSize * p .i) lines ≡ lineRecords 0 0 (take (p .i) O) =
+      sym (take-take (lineSize * p .i) (lineNeed m) lines (omega (arith, pl .i-le))) ∙ ap (take (lineSize * p .i)) lines-are ∙ lineRecords-take 0 0 (p .i) O i-le in
       (λ y. t y ++ (lineRecords (p .base) (p .first) N ++ kept-lines y)) ∙ sym line-parts
 
   -- Token records.
@@ -138,17 +138,17 @@ module _ (n m k : ℕ) (text lines tokens : List ℕ) (ed : Edit) (bh : Behind (
   kept-tokens =
       let s : 0 + byteSum (take (p .j) O) ≡ p .old = zero-add (byteSum (take (p .j) O)) ∙ sym (x .old-is) in
       let l : 1 + p .j ≡ p .j + 1 = omega arith in
-      let f : 5 * p .from ≡ 5 * tokenSum (take (p .j) O) = ap (λ (y : ℕ). 5 * y) (x .from-is) in
-      let d : drop (5 * p .from) tokens ≡ tokenRecords (p .old) (p .j + 1) (drop (p .j) O) ++ drop (tokenNeed k) tokens =
-      cut-tail tokens (tokenRecords 0 1 O) (tokenNeed k) (5 * p .from) tokens-are (omega (arith, length-tokenRecords 0 1 O, pl .from-le, k-is))
+      let f : tokenSize * p .from ≡ tokenSize * tokenSum (take (p .j) O) = ap (λ (y : ℕ). tokenSize * y) (x .from-is) in
+      let d : drop (tokenSize * p .from) tokens ≡ tokenRecords (p .old) (p .j + 1) (drop (p .j) O) ++ drop (tokenNeed k) tokens =
+      cut-tail tokens (tokenRecords 0 1 O) (tokenNeed k) (tokenSize * p .from) tokens-are (omega (arith, length-tokenRecords 0 1 O, pl .from-le, k-is))
       ∙ ap (λ (y : List ℕ). y ++ drop (tokenNeed k) tokens) (ap (λ (y : ℕ). drop y (tokenRecords 0 1 O)) f ∙ tokenRecords-drop 0 1 (p .j) O j-le ∙ (λ y. tokenRecords (s y) (l y) (drop (p .j) O))) in
       ap (movedTokens (p .old) (p .new) (p .j + 1) (p .i + p .lines + 1) tokens (p .from)) tail-sum
       ∙ moved-token-records (p .old) (p .new) (p .j + 1) (p .i + p .lines + 1) tokens (p .from) (drop (p .j) O) (drop (tokenNeed k) tokens) d tokens-small
 
   pub token-words : writtenTokens u lines tokens k p ≡ tokenRecords 0 1 E
   token-words =
-      let f : 5 * p .first ≡ 5 * tokenSum (take (p .i) O) = ap (λ (y : ℕ). 5 * y) (x .first-is) in
-      let t : take (5 * p .first) tokens ≡ tokenRecords 0 1 (take (p .i) O) =
-      sym (take-take (5 * p .first) (tokenNeed k) tokens (omega (arith, pl .first-le))) ∙ ap (take (5 * p .first)) tokens-are
+      let f : tokenSize * p .first ≡ tokenSize * tokenSum (take (p .i) O) = ap (λ (y : ℕ). tokenSize * y) (x .first-is) in
+      let t : take (tokenSize * p .first) tokens ≡ tokenRecords 0 1 (take (p .i) O) =
+      sym (take-take (tokenSize * p .first) (tokenNeed k) tokens (omega (arith, pl .first-le))) ∙ ap (take (tokenSize * p .first)) tokens-are
       ∙ ap (λ (y : ℕ). take y (tokenRecords 0 1 O)) f ∙ tokenRecords-take 0 1 (p .i) O i-le in
       (λ y. t y ++ (tokenRecords (p .base) (p .i + 1) N ++ kept-tokens y)) ∙ sym token-parts

@@ -4,7 +4,7 @@ ghost use mathlib.Core.Bool.{true};
 ghost use Prim.Native.Nat.{_+_, _-_, _*_, _≤_, _<_, min};
 ghost use lib.ListN.{length, take, drop};
 ghost use lib.Seq.{sets};
-ghost use Rattle.rules.specs.Records.{header};
+ghost use Rattle.rules.specs.Records.{lineSize, tokenSize, header};
 ghost use Rattle.rules.specs.Page.{fits, freshReply, freshLines};
 ghost use Rattle.rules.specs.StopRule.{edited};
 ghost use Rattle.rules.specs.Edit.{EditPost};
@@ -25,11 +25,11 @@ pub fn fresh(lines: &mut [u32]) -> FreshAnswer
     ensures { λ r. ⌜ freshNumbers r ≡ freshReply (length (now (lines .entry))) ⌝ }
     ensures { λ _. ⌜ now (lines .exit) ≡ freshLines (now (lines .entry)) ⌝ }
 {
-    if lines.len() < 21 {
-        return FreshAnswer::ShortLines(21);
+    if lines.len() < records::LINE {
+        return FreshAnswer::ShortLines(records::LINE);
     }
     let mut i: usize = 0;
-    while i < 21 {
+    while i < records::LINE {
         lines[i] = 0;
         i += 1;
     }
@@ -76,13 +76,13 @@ fn write_edit(
     p: planning::Plan,
 ) -> EditAnswer
     requires { ⌜ (a ≤ size) × ((size ≤ length (now text)) × ((size ≤ length (now spare)) × (size ≤ 1_048_576))) ⌝ }
-    requires { ⌜ (21 * (m + 1) ≤ length (now lines)) × (5 * k ≤ length (now tokens)) ⌝ }
+    requires { ⌜ (lineSize * (m + 1) ≤ length (now lines)) × (tokenSize * k ≤ length (now tokens)) ⌝ }
     requires { ⌜ Planned (take size (now spare)) (now lines) m k p ⌝ }
     requires { ⌜ Roomy m k (length (now lines)) (length (now tokens)) p ⌝ }
     ensures { λ r. ⌜ r ≡ Edited size (linesAfter p m - 1) (tokensAfter p k) (p .count) ⌝ }
     ensures { λ _. ⌜ now (text .exit) ≡ sets (now (text .entry)) a (drop a (take size (now (spare .entry)))) ⌝ }
-    ensures { λ _. ⌜ now (lines .exit) ≡ sets (now (lines .entry)) (21 * p .i) (lineTail (take size (now (spare .entry))) (now (lines .entry)) m p) ⌝ }
-    ensures { λ _. ⌜ now (tokens .exit) ≡ sets (now (tokens .entry)) (5 * p .first) (tokenTail (take size (now (spare .entry))) (now (lines .entry)) (now (tokens .entry)) k p) ⌝ }
+    ensures { λ _. ⌜ now (lines .exit) ≡ sets (now (lines .entry)) (lineSize * p .i) (lineTail (take size (now (spare .entry))) (now (lines .entry)) m p) ⌝ }
+    ensures { λ _. ⌜ now (tokens .exit) ≡ sets (now (tokens .entry)) (tokenSize * p .first) (tokenTail (take size (now (spare .entry))) (now (lines .entry)) (now (tokens .entry)) k p) ⌝ }
 {
     writing::write_records(&spare[..size], lines, tokens, m, k, p);
     moving::copy_back(spare, text, a, size);

@@ -2,69 +2,45 @@
 -- Assumes nothing.
 use Prim.Native.Nat.{ℕ, suc, _+_, _*_, _≤_, _<_}
 use mathlib.Core.Path.{_≡_, refl, sym, ap, subst, _∙_}
-use mathlib.Core.Bool.{Bool, true, false, not}
+use mathlib.Core.Bool.{Bool, true, false}
 use mathlib.Core.List.{List, [], _∷_, _++_, append-assoc, append-nil}
 use native.Mathlib.Omega.{arith}
 use native.Mathlib.Nat.{add-zero}
-use lib.Dec.{ltb, eqb}
+use lib.Dec.{ltb}
 use lib.ListN.{length, getD, take, drop, length-append, length-drop, length-take, drop-of-length-le, take-append-drop, length-replicate}
 use lib.Seq.{take-take, take-all, take-append-le, length-take-le}
 use borrow.Author.Tests.{lt-ltb, le-ltb, ltb-true, ltb-false}
-use Rattle.rules.specs.Lists.{if_then_else_, bit}
+use Rattle.rules.specs.Lists.{if_then_else_}
 use Rattle.rules.specs.Line.{State, initial, tokenAt, Halt, failed, overLimit}
 use Rattle.rules.specs.Reading.{linesOf, countLF, Entry, Reading, reads, halts, readFrom, byteSum, tokenSum, stateAt}
 use Rattle.rules.specs.Replies.{maxBytes, maxLevels, barge, lexical, atLine, reading, short, linesBuffer, tokensBuffer, refusedIf, firstOf, unless, isTooLong}
-use Rattle.rules.specs.Records.{lineNeed, tokenNeed, packed, stateWords, lineRecords, endEntry, withEnd, Records, recordsOf, recordTests, haltRefusal, recordedBy, recorded, unread, readLines, Behind}
+use Rattle.rules.specs.Records.{widthWords, lineSize, tokenSize, lineNeed, tokenNeed, stateWords, lineRecords, endEntry, withEnd, Records, recordsOf, recordTests, haltRefusal, recordedBy, recorded, unread, readLines, Behind}
 use Rattle.rules.specs.Page.{Page, pageText, pageRecords, Faithful}
 use Rattle.rules.specs.StopRule.{Edit, edited, rereadCount}
 use Rattle.rules.specs.Edit.{late, stored}
 use Rattle.rules.proofs.LineLaws.{total, drop-lines}
 use Rattle.rules.proofs.ReadingLaws.{parts, read-sizes, byteSum-append, tokenSum-append}
 use Rattle.rules.proofs.RecordLaws.{behind}
-use Rattle.rules.proofs.StateLaws.{unpacked}
 use Rattle.rules.proofs.EditedLaws.{length-edited}
 use Rattle.rules.proofs.MendLaws.{kept-size, kept-length}
 use Rattle.rules.proofs.LoopLaws.{ReadTo, with-end}
 use Rattle.rules.proofs.BoundLaws.{fresh-small, read-grown}
 use Rattle.rules.proofs.PageLaws.{Fits, page-length, fresh-inverse}
-use Rattle.rereading.specs.Words.{stateIn}
 use Rattle.rereading.specs.Rereads.{Old, Lines, RereadIs}
 use Rattle.rereading.specs.declared.Reread.{Reread}
 use Rattle.rereading.specs.declared.Reread.the-variants.{Stops, Ends, Fails, TooDeep}
 use Rattle.lines.specs.declared.FailureRecord.{FailureRecord}
-use Rattle.line.specs.declared.State as line-state
-use Rattle.rereading.proofs.Words.{state-words}
+use Rattle.records.specs.declared.State as line-state
+use Rattle.records.proofs.Words.{state-words, state-from}
 use Rattle.rereading.proofs.Rereads.{fails-whole, deep-whole}
 use Rattle.rereading.proofs.OldLines.{start-is, first-is, state-is, levels-at}
-use Rattle.planning.specs.Starts.{lineWord, stateFrom, isUsable}
+use Rattle.records.specs.Words.{lineWord, stateFrom}
+use Rattle.planning.specs.Starts.{isUsable}
 use Rattle.planning.specs.Plans.{linesAfter, tokensAfter, roomed, beginLine, stopPlan, stopAnswer, endPlan, newLines, plannedLines, ReadsAs, Planned, Mends, recordOut, OnPaper, PlanIs}
 use Rattle.planning.specs.declared.Plan.{Plan}
 use Rattle.planning.specs.declared.PlanAnswer.the-variants.{Writes, ShortLines, ShortTokens, Unfit}
 use Rattle.planning.proofs.Starts.{Usable, true-usable}
 use Rattle.planning.proofs.Begins.{Begun, begin-at}
-
--- A state from its words.
-
-arrow-back : (b : Bool) → not (eqb (bit b) 0) ≡ b
-arrow-back true = refl
-arrow-back false = refl
-
-state-from : (lines : List ℕ) (i : ℕ) (z : State) → 21 * (i + 1) ≤ length lines → length (z .widths) ≤ maxLevels → stateIn lines i ≡ stateWords z → stateFrom lines i ≡ z
-unfolding stateWords
-state-from lines i z h few e =
-    let w : getD lines (21 * i + 2) 0 ∷ getD lines (21 * i + 2 + 1) 0 ∷ getD lines (21 * i + 2 + 2) 0 ∷ take 16 (drop (21 * i + 2 + 3) lines)
-    ≡ z .depth ∷ bit (z .arrow) ∷ length (z .widths) ∷ packed (z .widths) = sym (state-words lines i h z) ∙ e in
-    let n3 : 21 * i + 3 ≡ 21 * i + 2 + 1 = omega arith in
-    let n4 : 21 * i + 4 ≡ 21 * i + 2 + 2 = omega arith in
-    let n5 : 21 * i + 5 ≡ 21 * i + 2 + 3 = omega arith in
-    let d : lineWord lines i 2 ≡ z .depth = cc in
-    let a : getD lines (21 * i + 2 + 1) 0 ≡ bit (z .arrow) = cc in
-    let l : getD lines (21 * i + 2 + 2) 0 ≡ length (z .widths) = cc in
-    let p : take 16 (drop (21 * i + 2 + 3) lines) ≡ packed (z .widths) = cc in
-    let a2 : not (eqb (lineWord lines i 3) 0) ≡ z .arrow = ap (λ (n : ℕ). not (eqb (getD lines n 0) 0)) n3 ∙ ap (λ (x : ℕ). not (eqb x 0)) a ∙ arrow-back (z .arrow) in
-    let w2 : take (lineWord lines i 4) (take 16 (drop (21 * i + 5) lines)) ≡ z .widths =
-    (λ x. take (getD lines (n4 x) 0) (take 16 (drop (n5 x) lines))) ∙ (λ x. take (l x) (p x)) ∙ unpacked (z .widths) few in
-    λ x. record { depth = d x; arrow = a2 x; widths = w2 x }
 
 -- Lists with the end.
 
@@ -164,7 +140,7 @@ module _ {pg : Page} {ed : Edit} (ok : Editable pg ed) where
     i-le = omega (arith, kept-length maxLevels t es end (bh .reads-are) ed ha, length-take (countLF (take a t)) es, m-is)
 
     start-of : (x : ℕ) → x ≤ m → lineWord lines x 0 ≡ byteSum (take x es)
-    start-of x h = ap (λ (y : ℕ). getD lines y 0) (add-zero (21 * x)) ∙ start-is lines m es end m-is lines-are x h
+    start-of x h = ap (λ (y : ℕ). getD lines y 0) (add-zero (lineSize * x)) ∙ start-is lines m es end m-is lines-are x h
 
     first-of : (x : ℕ) → x ≤ m → lineWord lines x 1 ≡ tokenSum (take x es)
     first-of x h = first-is lines m es end m-is lines-are x h
@@ -184,13 +160,13 @@ module _ {pg : Page} {ed : Edit} (ok : Editable pg ed) where
           bytes = refl;
         }
 
-    levels-word : (x : ℕ) → x ≤ m → lineWord lines x 4 ≤ 16
+    levels-word : (x : ℕ) → x ≤ m → lineWord lines x 4 ≤ widthWords
     unfolding stateWords
     levels-word x h =
         let w = state-words lines x (omega (arith, ok .fits .lines)) (stateAt es end x) in
         let q = sym w ∙ state-is lines m es end m-is lines-are x h in
-        let l : getD lines (21 * x + 2 + 2) 0 ≡ length (stateAt es end x .widths) = cc in
-        let n4 : 21 * x + 4 ≡ 21 * x + 2 + 2 = omega arith in
+        let l : getD lines (lineSize * x + 2 + 2) 0 ≡ length (stateAt es end x .widths) = cc in
+        let n4 : lineSize * x + 4 ≡ lineSize * x + 2 + 2 = omega arith in
         omega (arith, ap (λ (y : ℕ). getD lines y 0) n4, l, levels-at t es end (bh .reads-are) x)
 
     -- the record where reading again begins passes the tests
@@ -303,11 +279,11 @@ module _ {pg : Page} {ed : Edit} (ok : Editable pg ed) where
       unfolding readLines recordedBy
       records-are = ap (recordedBy barge) (mends bh .reads-are)
 
-      lines-need : lineNeed (recordsOf (mends bh .entries) (mends bh .last) .head .m) ≡ 21 * linesAfter p m
+      lines-need : lineNeed (recordsOf (mends bh .entries) (mends bh .last) .head .m) ≡ lineSize * linesAfter p m
       unfolding recordsOf
       lines-need = omega (arith, lines-sum)
 
-      tokens-need : tokenNeed (recordsOf (mends bh .entries) (mends bh .last) .head .k) ≡ 5 * tokensAfter p k
+      tokens-need : tokenNeed (recordsOf (mends bh .entries) (mends bh .last) .head .k) ≡ tokenSize * tokensAfter p k
       unfolding recordsOf
       tokens-need = omega (arith, tokens-sum)
 
@@ -317,32 +293,32 @@ module _ {pg : Page} {ed : Edit} (ok : Editable pg ed) where
           let s = fresh-small u (recordsOf (mends bh .entries) (mends bh .last)) (ok .small) records-are in
           omega (arith, tokens-sum, s .k-le, s .n-le)
 
-    short-lines : length lines < 21 * linesAfter p m → OnPaper pg ed (short linesBuffer (21 * linesAfter p m))
+    short-lines : length lines < lineSize * linesAfter p m → OnPaper pg ed (short linesBuffer (lineSize * linesAfter p m))
     unfolding stored recordTests refusedIf firstOf unless
     short-lines h spare fa =
         let bh = faithful-behind fa in
-        rw (records-are bh, lines-need bh, lt-ltb (length lines) (21 * linesAfter p m) h) refl
+        rw (records-are bh, lines-need bh, lt-ltb (length lines) (lineSize * linesAfter p m) h) refl
 
-    short-tokens : 21 * linesAfter p m ≤ length lines → length tokens < 5 * tokensAfter p k → OnPaper pg ed (short tokensBuffer (5 * tokensAfter p k))
+    short-tokens : lineSize * linesAfter p m ≤ length lines → length tokens < tokenSize * tokensAfter p k → OnPaper pg ed (short tokensBuffer (tokenSize * tokensAfter p k))
     unfolding stored recordTests refusedIf firstOf unless
     short-tokens l h spare fa =
         let bh = faithful-behind fa in
-        rw (records-are bh, lines-need bh, tokens-need bh, le-ltb (length lines) (21 * linesAfter p m) l, lt-ltb (length tokens) (5 * tokensAfter p k) h) refl
+        rw (records-are bh, lines-need bh, tokens-need bh, le-ltb (length lines) (lineSize * linesAfter p m) l, lt-ltb (length tokens) (tokenSize * tokensAfter p k) h) refl
 
     pub roomed-is : PlanIs pg ed (roomed p m k (length lines) (length tokens))
-    roomed-is = go (ltb 2_097_152 (tokensAfter p k)) refl (ltb (length lines) (21 * linesAfter p m)) refl (ltb (length tokens) (5 * tokensAfter p k)) refl
+    roomed-is = go (ltb 2_097_152 (tokensAfter p k)) refl (ltb (length lines) (lineSize * linesAfter p m)) refl (ltb (length tokens) (tokenSize * tokensAfter p k)) refl
       where
-        go : (b1 : Bool) → ltb 2_097_152 (tokensAfter p k) ≡ b1 → (b2 : Bool) → ltb (length lines) (21 * linesAfter p m) ≡ b2 → (b3 : Bool) → ltb (length tokens) (5 * tokensAfter p k) ≡ b3
-            → PlanIs pg ed (if b1 then Unfit else if b2 then ShortLines (21 * linesAfter p m) else if b3 then ShortTokens (5 * tokensAfter p k) else Writes p)
+        go : (b1 : Bool) → ltb 2_097_152 (tokensAfter p k) ≡ b1 → (b2 : Bool) → ltb (length lines) (lineSize * linesAfter p m) ≡ b2 → (b3 : Bool) → ltb (length tokens) (tokenSize * tokensAfter p k) ≡ b3
+            → PlanIs pg ed (if b1 then Unfit else if b2 then ShortLines (lineSize * linesAfter p m) else if b3 then ShortTokens (tokenSize * tokensAfter p k) else Writes p)
         go true e1 b2 e2 b3 e3 = λ spare fa. absurd (omega (arith, ltb-true 2_097_152 (tokensAfter p k) e1, few-tokens (faithful-behind fa)))
-        go false e1 true e2 b3 e3 = short-lines (ltb-true (length lines) (21 * linesAfter p m) e2)
-        go false e1 false e2 true e3 = short-tokens (ltb-false (length lines) (21 * linesAfter p m) e2) (ltb-true (length tokens) (5 * tokensAfter p k) e3)
+        go false e1 true e2 b3 e3 = short-lines (ltb-true (length lines) (lineSize * linesAfter p m) e2)
+        go false e1 false e2 true e3 = short-tokens (ltb-false (length lines) (lineSize * linesAfter p m) e2) (ltb-true (length tokens) (tokenSize * tokensAfter p k) e3)
         go false e1 false e2 false e3 = (
           pl,
           (
             record {
-              line-room = ltb-false (length lines) (21 * linesAfter p m) e2;
-              token-room = ltb-false (length tokens) (5 * tokensAfter p k) e3;
+              line-room = ltb-false (length lines) (lineSize * linesAfter p m) e2;
+              token-room = ltb-false (length tokens) (tokenSize * tokensAfter p k) e3;
               few = ltb-false 2_097_152 (tokensAfter p k) e1;
             },
             mends,
@@ -371,7 +347,7 @@ module _ {pg : Page} {ed : Edit} (ok : Editable pg ed) where
     Gives = RereadIs (drop base u) lines base i m i b (a + length w) z
 
     -- how much was read again
-    lines-small : (c x q : ℕ) (l : Lines (drop base u) z c x q) → (c ≤ q) × (x ≤ 16 + 2 * q) × (x + length (l .after .widths) ≤ 16 + 2 * q)
+    lines-small : (c x q : ℕ) (l : Lines (drop base u) z c x q) → (c ≤ q) × (x ≤ widthWords + 2 * q) × (x + length (l .after .widths) ≤ widthWords + 2 * q)
     lines-small c x q l =
         let rest : List ℕ = drop base u in
         let s = read-sizes maxLevels z (take c (linesOf rest)) (l .es) (l .after) (l .reads-are) in
@@ -383,7 +359,7 @@ module _ {pg : Page} {ed : Edit} (ok : Editable pg ed) where
           bytes = l .bytes;
         } in
         let g = read-grown maxLevels z rest q (l .es) (l .after) to in
-        let v : length (z .widths) ≤ 16 = omega (arith, length-take (lineWord lines i 4) (take 16 (drop (21 * i + 5) lines)), us .levels) in
+        let v : length (z .widths) ≤ widthWords = omega (arith, length-take (lineWord lines i 4) (take widthWords (drop (lineSize * i + 5) lines)), us .levels) in
         (omega (arith, g .lines, l .count), omega (arith, g .tokens, l .tokens), omega (arith, g .tokens, l .tokens))
 
     -- as the plans need it

@@ -3,19 +3,21 @@
 use Prim.Native.Nat.{ℕ, zero, suc, _+_, _*_, _≤_, _<_}
 use mathlib.Core.Path.{_≡_, refl, sym, ap, _∙_}
 use mathlib.Core.Bool.{Bool, true, false, _&&_}
-use mathlib.Core.List.{List, [], _∷_, _++_, append-nil}
+use mathlib.Core.List.{List, [], _∷_, _++_}
 use native.Mathlib.Omega.{arith}
 use native.Mathlib.Nat.{zero-add}
 use native.Mathlib.Numerals.{add-one}
 use lib.Dec.{leb, eqb}
-use lib.ListN.{length, getD, take, drop, length-take, drop-of-length-le, take-append-drop}
-use lib.Seq.{take-suc, take-append-add, length-take-le, sets, sets-eq}
+use lib.ListN.{length, getD, take, drop, length-take, take-append-drop}
+use lib.Seq.{take-suc, take-append-add, length-take-le}
 use mir.Val.{boolByte}
 use borrow.Author.Tests.{le-leb, lt-leb, leb-true}
 use Rattle.rules.specs.Lists.{if_then_else_, bit}
 use Rattle.rules.specs.Reading.{isLF, countLF}
+use Rattle.rules.specs.Records.{widthWords}
 use Rattle.rules.proofs.ListLaws.{and-true}
-use Rattle.planning.specs.Starts.{lineWord, isUsable}
+use Rattle.records.specs.Words.{lineWord}
+use Rattle.planning.specs.Starts.{isUsable}
 
 count-append : (xs ys : List ℕ) → countLF (xs ++ ys) ≡ countLF xs + countLF ys
 unfolding countLF
@@ -59,7 +61,7 @@ module _ (lines : List ℕ) (i k a : ℕ) where
     pub number : i ≤ lineWord lines i 0
     pub first : lineWord lines i 1 ≤ k
     pub depth : lineWord lines i 2 ≤ lineWord lines i 0
-    pub levels : lineWord lines i 4 ≤ 16
+    pub levels : lineWord lines i 4 ≤ widthWords
 
   pub usable-true : isUsable lines i k a ≡ true → Usable
   usable-true h =
@@ -72,7 +74,7 @@ module _ (lines : List ℕ) (i k a : ℕ) where
         number = leb-true i (lineWord lines i 0) (x2 .0);
         first = leb-true (lineWord lines i 1) k (x3 .0);
         depth = leb-true (lineWord lines i 2) (lineWord lines i 0) (x4 .0);
-        levels = leb-true (lineWord lines i 4) 16 (x4 .1);
+        levels = leb-true (lineWord lines i 4) widthWords (x4 .1);
       }
 
   pub true-usable : Usable → isUsable lines i k a ≡ true
@@ -82,7 +84,7 @@ module _ (lines : List ℕ) (i k a : ℕ) where
         le-leb i (lineWord lines i 0) (u .number),
         le-leb (lineWord lines i 1) k (u .first),
         le-leb (lineWord lines i 2) (lineWord lines i 0) (u .depth),
-        le-leb (lineWord lines i 4) 16 (u .levels),
+        le-leb (lineWord lines i 4) widthWords (u .levels),
       )
 
   -- the tests, one after the other
@@ -102,14 +104,9 @@ module _ (lines : List ℕ) (i k a : ℕ) where
         not-depth h =
             rw (le-leb (lineWord lines i 0) a s, le-leb i (lineWord lines i 0) n, le-leb (lineWord lines i 1) k f, lt-leb (lineWord lines i 2) (lineWord lines i 0) h)
 
-        pub only-levels : lineWord lines i 2 ≤ lineWord lines i 0 → isUsable lines i k a ≡ leb (lineWord lines i 4) 16
+        pub only-levels : lineWord lines i 2 ≤ lineWord lines i 0 → isUsable lines i k a ≡ leb (lineWord lines i 4) widthWords
         only-levels h =
             rw (le-leb (lineWord lines i 0) a s, le-leb i (lineWord lines i 0) n, le-leb (lineWord lines i 1) k f, le-leb (lineWord lines i 2) (lineWord lines i 0) h)
-
--- as many words over a buffer are the buffer
-pub sets-whole : (l vs : List ℕ) → length vs ≡ length l → sets l 0 vs ≡ vs
-sets-whole l vs h =
-    sets-eq vs l 0 (omega arith) ∙ ap (λ (x : List ℕ). vs ++ x) (drop-of-length-le l {i = 0 + length vs} (omega arith)) ∙ append-nil vs
 
 pub byte-bit : (b : Bool) → boolByte b ≡ bit b
 byte-bit true = refl

@@ -11,12 +11,13 @@ use Rattle.rules.specs.Failure as rules-failure
 use Rattle.rules.specs.Line.{State, initial}
 use Rattle.rules.specs.Reading.{linesOf, countLF, Entry, Reading, reads, halts, readFrom, byteSum, tokenSum}
 use Rattle.rules.specs.Replies.{maxLevels, barge, Refusal, reading, lexical, atLine, short, unfit, linesBuffer, tokensBuffer}
-use Rattle.rules.specs.Records.{withEnd, readLines, Behind}
+use Rattle.rules.specs.Records.{widthWords, lineSize, tokenSize, withEnd, readLines, Behind}
 use Rattle.rules.specs.Page.{Page, fits, pageText, pageRecords, Faithful}
 use Rattle.rules.specs.StopRule.{Edit, edited, rereadCount}
 use Rattle.rules.specs.Edit.{Outcome, late, stored}
 use Rattle.lines.specs.declared.FailureRecord.{FailureRecord}
-use Rattle.planning.specs.Starts.{lineWord, stateFrom, isUsable}
+use Rattle.records.specs.Words.{lineWord, stateFrom}
+use Rattle.planning.specs.Starts.{isUsable}
 use Rattle.planning.specs.declared.Plan.{Plan}
 use Rattle.planning.specs.declared.PlanAnswer.{PlanAnswer}
 use Rattle.planning.specs.declared.PlanAnswer.the-variants.{Writes, Fails, TooDeep, ShortLines, ShortTokens, Unfit}
@@ -34,8 +35,8 @@ tokensAfter p k = p .first + p .tokens + (k - p .from)
 abbrev pub roomed : Plan → (m k lines tokens : ℕ) → PlanAnswer
 roomed p m k lines tokens =
     if ltb 2_097_152 (tokensAfter p k) then Unfit
-    else if ltb lines (21 * linesAfter p m) then ShortLines (21 * linesAfter p m)
-    else if ltb tokens (5 * tokensAfter p k) then ShortTokens (5 * tokensAfter p k)
+    else if ltb lines (lineSize * linesAfter p m) then ShortLines (lineSize * linesAfter p m)
+    else if ltb tokens (tokenSize * tokensAfter p k) then ShortTokens (tokenSize * tokensAfter p k)
     else Writes p
 
 -- The line where reading again begins, for an edit from byte a on; m + 1 where no faithful page has such a header or such a record.
@@ -113,7 +114,7 @@ pub record Planned (u lines : List ℕ) (m k : ℕ) (p : Plan) : Type 0 where
   pub number : p .i ≤ p .base
   pub base-le : p .base ≤ length u
   pub depth : lineWord lines (p .i) 2 ≤ p .base
-  pub levels : lineWord lines (p .i) 4 ≤ 16
+  pub levels : lineWord lines (p .i) 4 ≤ widthWords
   pub reads-as : ReadsAs p (plannedLines u lines p)
   pub first-le : p .first ≤ k
   pub from-le : p .from ≤ k
@@ -123,8 +124,8 @@ pub record Planned (u lines : List ℕ) (m k : ℕ) (p : Plan) : Type 0 where
   pub some : 1 ≤ p .lines + (m + 1 - p .j)
 
 pub record Roomy (m k lines tokens : ℕ) (p : Plan) : Type 0 where
-  pub line-room : 21 * linesAfter p m ≤ lines
-  pub token-room : 5 * tokensAfter p k ≤ tokens
+  pub line-room : lineSize * linesAfter p m ≤ lines
+  pub token-room : tokenSize * tokensAfter p k ≤ tokens
   pub few : tokensAfter p k ≤ 2_097_152
 
 -- on a faithful page: the edited text reads, and its lines are the old ones with those from i to j replaced

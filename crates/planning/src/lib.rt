@@ -5,10 +5,11 @@ ghost use Prim.Native.Nat.{_+_, _-_, _*_, _≤_, _<_};
 ghost use lib.ListN.{length, take, drop};
 ghost use Rattle.rules.specs.Reading.{countLF};
 ghost use Rattle.rules.specs.Page.{fits};
-ghost use Rattle.line.specs.States.{stateOf};
+ghost use Rattle.rules.specs.Records.{widthWords, lineSize};
 ghost use Rattle.header.specs.Pages.{page};
 ghost use Rattle.rereading.specs.Rereads.{RereadIs};
-ghost use Rattle.planning.specs.Starts.{lineWord, stateFrom, isUsable};
+ghost use Rattle.records.specs.Words.{lineWord, stateFrom};
+ghost use Rattle.planning.specs.Starts.{isUsable};
 ghost use Rattle.planning.specs.Plans.{roomed, beginLine, stopPlan, stopAnswer, endPlan, editOf, editedText, PlanIs};
 
 // The LFs of a part; a count in one byte is compiled to sums of vectors.
@@ -53,10 +54,10 @@ pub fn count_lf(text: &[u8], a: usize) -> usize
 
 // Reading can begin at record i.
 pub fn usable(lines: &[u32], i: usize, k: usize, a: usize) -> bool
-    requires { ⌜ (i ≤ 1_048_576) × (21 * (i + 1) ≤ length (now lines)) ⌝ }
+    requires { ⌜ (i ≤ 1_048_576) × (lineSize * (i + 1) ≤ length (now lines)) ⌝ }
     ensures { λ r. ⌜ r ≡ isUsable (now (lines .entry)) i k a ⌝ }
 {
-    let at = 21 * i;
+    let at = records::LINE * i;
     let start = lines[at + 0] as usize;
     if a < start {
         return false;
@@ -70,34 +71,7 @@ pub fn usable(lines: &[u32], i: usize, k: usize, a: usize) -> bool
     if start < lines[at + 2] as usize {
         return false;
     }
-    lines[at + 4] <= 16
-}
-
-// 16 widths from `at` on.
-fn load_widths(lines: &[u32], at: usize, widths: &mut [u32])
-    requires { ⌜ (length (now widths) ≡ 16) × (at + 16 ≤ length (now lines)) ⌝ }
-    ensures { λ _. ⌜ now (widths .exit) ≡ take 16 (drop at (now (lines .entry))) ⌝ }
-{
-    let mut x: usize = 0;
-    while x < 16 {
-        widths[x] = lines[at + x];
-        x += 1;
-    }
-}
-
-// The state in record i, its widths beside it.
-pub fn load_state(lines: &[u32], i: usize, widths: &mut [u32]) -> line::State
-    requires { ⌜ (i ≤ 1_048_576) × ((21 * (i + 1) ≤ length (now lines)) × (length (now widths) ≡ 16)) ⌝ }
-    requires { ⌜ lineWord (now lines) i 4 ≤ 16 ⌝ }
-    ensures { λ r. ⌜ (stateOf r (now (widths .exit)) ≡ stateFrom (now (lines .entry)) i) × (r .levels ≤ 16) ⌝ }
-{
-    let at = 21 * i;
-    load_widths(lines, at + 5, widths);
-    line::State {
-        depth: lines[at + 2],
-        arrow: lines[at + 3] != 0,
-        levels: lines[at + 4] as usize,
-    }
+    lines[at + 4] as usize <= records::LEVELS
 }
 
 // Where an accepted edit writes: line records from i on, where `base` is the start of line i, become `lines` records, for `count`
@@ -139,18 +113,18 @@ fn plan_room(p: Plan, m: usize, k: usize, lines: usize, tokens: usize) -> PlanAn
     if 2_097_152 < token_records {
         return PlanAnswer::Unfit;
     }
-    if lines < 21 * line_records {
-        return PlanAnswer::ShortLines(21 * line_records);
+    if lines < records::LINE * line_records {
+        return PlanAnswer::ShortLines(records::LINE * line_records);
     }
-    if tokens < 5 * token_records {
-        return PlanAnswer::ShortTokens(5 * token_records);
+    if tokens < records::TOKEN * token_records {
+        return PlanAnswer::ShortTokens(records::TOKEN * token_records);
     }
     PlanAnswer::Writes(p)
 }
 
 // The line where reading again begins; m + 1 where the page is not faithful.
 fn begin_line(text: &[u8], lines: &[u32], m: usize, k: usize, a: usize) -> usize
-    requires { ⌜ (a ≤ length (now text)) × ((m ≤ 4_294_967_295) × (21 * (m + 1) ≤ length (now lines))) ⌝ }
+    requires { ⌜ (a ≤ length (now text)) × ((m ≤ 4_294_967_295) × (lineSize * (m + 1) ≤ length (now lines))) ⌝ }
     ensures { λ r. ⌜ r ≡ beginLine (now (text .entry)) (now (lines .entry)) m k a ⌝ }
 {
     if 1_048_576 < m {
@@ -182,11 +156,11 @@ fn plan_stop(
     j: usize,
     tokens: usize,
 ) -> PlanAnswer
-    requires { ⌜ (i ≤ m) × ((j ≤ m) × ((m ≤ 1_048_576) × (21 * (m + 1) ≤ length (now lines)))) ⌝ }
+    requires { ⌜ (i ≤ m) × ((j ≤ m) × ((m ≤ 1_048_576) × (lineSize * (m + 1) ≤ length (now lines)))) ⌝ }
     requires { ⌜ (lineWord (now lines) i 1 ≤ k) × ((k ≤ 2_097_152) × ((c ≤ 1_048_576) × ((t ≤ 2_500_000) × (base + q ≤ 1_048_576)))) ⌝ }
     ensures { λ r. ⌜ r ≡ stopAnswer (now (lines .entry)) i base m k c t q j tokens ⌝ }
 {
-    let from = lines[21 * j + 1] as usize;
+    let from = lines[records::LINE * j + 1] as usize;
     if k < from {
         return PlanAnswer::Unfit;
     }
@@ -194,13 +168,13 @@ fn plan_stop(
         i: i,
         j: j,
         base: base,
-        first: lines[21 * i + 1] as usize,
+        first: lines[records::LINE * i + 1] as usize,
         from: from,
         count: c,
         read: t,
         lines: c,
         tokens: t,
-        old: lines[21 * j + 0] as usize,
+        old: lines[records::LINE * j + 0] as usize,
         new: base + q,
         ends: false,
     };
@@ -221,7 +195,7 @@ fn plan_end(
     levels: usize,
     tokens: usize,
 ) -> PlanAnswer
-    requires { ⌜ (i ≤ m) × ((m ≤ 1_048_576) × (21 * (m + 1) ≤ length (now lines))) ⌝ }
+    requires { ⌜ (i ≤ m) × ((m ≤ 1_048_576) × (lineSize * (m + 1) ≤ length (now lines))) ⌝ }
     requires { ⌜ (lineWord (now lines) i 1 ≤ k) × ((k ≤ 2_097_152) × ((c ≤ 1_048_576) × (t + levels ≤ 2_500_000))) ⌝ }
     ensures { λ r. ⌜ r ≡ roomed (endPlan (now (lines .entry)) i base m k n size c t levels) m k (length (now (lines .entry))) tokens ⌝ }
 {
@@ -229,7 +203,7 @@ fn plan_end(
         i: i,
         j: m + 1,
         base: base,
-        first: lines[21 * i + 1] as usize,
+        first: lines[records::LINE * i + 1] as usize,
         from: k,
         count: c,
         read: t,
@@ -251,8 +225,8 @@ fn reread_from(
     b: usize,
     kept: usize,
 ) -> rereading::Reread
-    requires { ⌜ (i ≤ 1_048_576) × ((i ≤ m) × ((m ≤ 4_294_967_295) × (21 * (m + 1) ≤ length (now lines)))) ⌝ }
-    requires { ⌜ (i ≤ lineWord (now lines) i 0) × ((lineWord (now lines) i 2 ≤ lineWord (now lines) i 0) × (lineWord (now lines) i 4 ≤ 16)) ⌝ }
+    requires { ⌜ (i ≤ 1_048_576) × ((i ≤ m) × ((m ≤ 4_294_967_295) × (lineSize * (m + 1) ≤ length (now lines)))) ⌝ }
+    requires { ⌜ (i ≤ lineWord (now lines) i 0) × ((lineWord (now lines) i 2 ≤ lineWord (now lines) i 0) × (lineWord (now lines) i 4 ≤ widthWords)) ⌝ }
     requires { ⌜ (lineWord (now lines) i 0 ≤ length (now edited)) × ((length (now edited) ≤ 1_048_576) × (b ≤ 4_294_967_295)) ⌝ }
     ensures { λ r. ⌜ RereadIs (drop (lineWord (now (lines .entry)) i 0) (now (edited .entry))) (now (lines .entry)) (lineWord (now (lines .entry)) i 0) i m i b kept (stateFrom (now (lines .entry)) i) r ⌝ }
 {
@@ -261,9 +235,9 @@ fn reread_from(
     let index = spelling::sign_index();
     let signs = spelling::sign_table();
     let keywords = spelling::keyword_table();
-    let mut widths: [u32; 16] = [0; 16];
-    let s = load_state(lines, i, &mut widths);
-    let base = lines[21 * i + 0] as usize;
+    let mut widths: [u32; records::LEVELS] = [0; records::LEVELS];
+    let s = records::load_state(lines, i, &mut widths);
+    let base = lines[records::LINE * i + 0] as usize;
     let mut no_lines: [u32; 1] = [0];
     let mut no_tokens: [u32; 1] = [0];
     rereading::read_on(
@@ -311,7 +285,7 @@ pub fn plan_edit(
     if (m as usize) < i {
         return PlanAnswer::Unfit;
     }
-    let base = lines[21 * i + 0] as usize;
+    let base = lines[records::LINE * i + 0] as usize;
     match reread_from(lines, edited, i, m as usize, b, a + w.len()) {
         rereading::Reread::Stops(c, t, q, j) => {
             plan_stop(

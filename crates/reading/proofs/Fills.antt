@@ -15,7 +15,7 @@ use Rattle.rules.specs.Failure.{failureRecord}
 use Rattle.rules.specs.Line.{State, initial, Halt, failed, overLimit}
 use Rattle.rules.specs.Reading.{linesOf, Entry, Reading, reads, halts, readFrom, byteSum, tokenSum}
 use Rattle.rules.specs.Replies.{maxBytes, maxWord, barge, linesBuffer, tokensBuffer, Unread, lexical, atLine, Refusal, reading, short, numbered, numberedUnread, failureWords, firstOf, unless, refusedIf, isTooLong, tooLongBy, isMalformed, malformedBy}
-use Rattle.rules.specs.Records.{lineNeed, tokenNeed, withEnd, Records, recordsOf, recordTests, FreshReading, recorded, unread, haltRefusal, recordedBy, readLines, freshReadingBy, freshReading}
+use Rattle.rules.specs.Records.{lineSize, tokenSize, lineNeed, tokenNeed, withEnd, Records, recordsOf, recordTests, FreshReading, recorded, unread, haltRefusal, recordedBy, readLines, freshReadingBy, freshReading}
 use Rattle.rules.specs.Read.{Filled, notFilled, filled, filledBy, readInto}
 use Rattle.rules.proofs.RecordLaws.{fresh-sizes}
 use Rattle.rules.proofs.BoundLaws.{Small, fresh-small}
@@ -119,7 +119,7 @@ module _ (t L T : List ℕ) where
             (omega (arith, d .0, s .m-le, s .n-le), omega (arith, d .1, s .k-le, s .n-le))
         go (halts es h) e d = absurd d
 
-    pub room : 21 * (m + 1) ≤ length L → 5 * k ≤ length T → RoomIn x (length L) (length T)
+    pub room : lineSize * (m + 1) ≤ length L → tokenSize * k ≤ length T → RoomIn x (length L) (length T)
     room hl ht = go x c
       where
         go : (y : Reading) → Counted m k y → RoomIn y (length L) (length T)
@@ -127,32 +127,32 @@ module _ (t L T : List ℕ) where
         go (halts es h) d = absurd d
 
     -- 5 (lines)
-    pub lines-answer : length L < 21 * (m + 1) → Answered now (answers.ShortLines (21 * (m + 1))) L T
+    pub lines-answer : length L < lineSize * (m + 1) → Answered now (answers.ShortLines (lineSize * (m + 1))) L T
     unfolding recordedBy recordsOf filledBy recordTests firstOf unless refusedIf numbered
     lines-answer h = go x is c
       where
-        go : (y : Reading) → whole ≡ y → Counted m k y → Answered now (answers.ShortLines (21 * (m + 1))) L T
+        go : (y : Reading) → whole ≡ y → Counted m k y → Answered now (answers.ShortLines (lineSize * (m + 1))) L T
         go (reads es z) e d =
             let n : length L < lineNeed (length es) = omega (arith, d .0) in
-            answered-by now _ (answers.ShortLines (21 * (m + 1))) L T (by-reading (reads es z) e)
-            (rw (lt-ltb (length L) (lineNeed (length es)) n) (ap (λ (i : ℕ). 5 ∷ linesBuffer ∷ 21 * (i + 1) ∷ []) (d .0), (refl, refl)))
+            answered-by now _ (answers.ShortLines (lineSize * (m + 1))) L T (by-reading (reads es z) e)
+            (rw (lt-ltb (length L) (lineNeed (length es)) n) (ap (λ (i : ℕ). 5 ∷ linesBuffer ∷ lineSize * (i + 1) ∷ []) (d .0), (refl, refl)))
         go (halts es x) e d = absurd d
 
     -- 5 (tokens)
-    pub tokens-answer : 21 * (m + 1) ≤ length L → length T < 5 * k → Answered now (answers.ShortTokens (5 * k)) L T
+    pub tokens-answer : lineSize * (m + 1) ≤ length L → length T < tokenSize * k → Answered now (answers.ShortTokens (tokenSize * k)) L T
     unfolding recordedBy recordsOf filledBy recordTests firstOf unless refusedIf numbered
     tokens-answer hl h = go x is c
       where
-        go : (y : Reading) → whole ≡ y → Counted m k y → Answered now (answers.ShortTokens (5 * k)) L T
+        go : (y : Reading) → whole ≡ y → Counted m k y → Answered now (answers.ShortTokens (tokenSize * k)) L T
         go (reads es z) e d =
             let l : lineNeed (length es) ≤ length L = omega (arith, d .0) in
             let n : length T < tokenNeed (tokenSum (withEnd es z)) = omega (arith, d .1) in
-            answered-by now _ (answers.ShortTokens (5 * k)) L T (by-reading (reads es z) e)
-            (rw (le-ltb (length L) (lineNeed (length es)) l, lt-ltb (length T) (tokenNeed (tokenSum (withEnd es z))) n) (ap (λ (i : ℕ). 5 ∷ tokensBuffer ∷ 5 * i ∷ []) (d .1), (refl, refl)))
+            answered-by now _ (answers.ShortTokens (tokenSize * k)) L T (by-reading (reads es z) e)
+            (rw (le-ltb (length L) (lineNeed (length es)) l, lt-ltb (length T) (tokenNeed (tokenSum (withEnd es z))) n) (ap (λ (i : ℕ). 5 ∷ tokensBuffer ∷ tokenSize * i ∷ []) (d .1), (refl, refl)))
         go (halts es x) e d = absurd d
 
     -- the records
-    pub records-answer : 21 * (m + 1) ≤ length L → 5 * k ≤ length T → (L′ T′ : List ℕ) → L′ ≡ sets L 0 (linesIn x) → T′ ≡ sets T 0 (tokensIn x)
+    pub records-answer : lineSize * (m + 1) ≤ length L → tokenSize * k ≤ length T → (L′ T′ : List ℕ) → L′ ≡ sets L 0 (linesIn x) → T′ ≡ sets T 0 (tokensIn x)
         → Answered now (answers.Records (length t) m k) L′ T′
     unfolding readLines recordedBy recordsOf filledBy recordTests firstOf unless refusedIf
     records-answer hl ht L′ T′ el et = go x is c el et

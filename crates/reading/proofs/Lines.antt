@@ -11,15 +11,15 @@ use lib.Seq.{length-take-le}
 use Rattle.rules.specs.Line as rules-line
 use Rattle.rules.specs.Line.{initial, tokenAt, dedents, Halt, failed, overLimit}
 use Rattle.rules.specs.Reading.{Line, linesOf, Entry, Reading, reads, halts, readFrom, linesRead, byteSum, tokenSum}
-use Rattle.rules.specs.Records.{lineRecord, lineRecords, tokenWords, tokenRecords, endEntry, withEnd, recordsOf}
+use Rattle.rules.specs.Records.{widthWords, lineSize, tokenSize, lineRecord, lineRecords, tokenWords, tokenRecords, endEntry, withEnd, recordsOf}
 use Rattle.rules.proofs.LineLaws.{total-lines}
 use Rattle.rules.proofs.ReadingLaws.{read-sizes, tokenSum-append}
 use Rattle.rules.proofs.LoopLaws.{ReadTo}
 use Rattle.rules.proofs.BoundLaws.{SmallAt, read-small}
 use Rattle.laws.specs.Puts.{putIf}
 use Rattle.laws.proofs.Puts.{putIf-by}
-use Rattle.line.specs.declared.State.{State}
-use Rattle.line.specs.States.{stateOf}
+use Rattle.records.specs.declared.State.{State}
+use Rattle.records.specs.States.{stateOf}
 use Rattle.lines.specs.declared.FailureRecord.{FailureRecord}
 use Rattle.rereading.specs.declared.Reread.the-variants.{Ends}
 use Rattle.rereading.specs.Rereads.{RereadIs, FailsAs, DeepAs}
@@ -41,9 +41,9 @@ pub record EndOf (t widths : List ℕ) (m k : ℕ) (s : State) : Type 0 where
   pub count : length es ≡ m
   pub sum : tokenSum es ≡ k
   pub levels : length (take (s .levels) widths) ≡ s .levels
-  pub few : s .levels ≤ 16
+  pub few : s .levels ≤ widthWords
 
-pub end-of : {t : List ℕ} (old widths : List ℕ) (m k : ℕ) (s : State) → RereadIs t old 0 0 0 0 0 (length t) initial (Ends m k s) → EndsIn (readFrom 16 initial (linesOf t)) widths (Ends m k s) → length widths ≡ 16
+pub end-of : {t : List ℕ} (old widths : List ℕ) (m k : ℕ) (s : State) → RereadIs t old 0 0 0 0 0 (length t) initial (Ends m k s) → EndsIn (readFrom 16 initial (linesOf t)) widths (Ends m k s) → length widths ≡ widthWords
     → EndOf t widths m k s
 end-of old widths m k s x y wide =
     record {
@@ -87,7 +87,7 @@ module _ (t : List ℕ) (short : length t ≤ 1_048_576) where
         go (reads es z) r = (omega (arith, r .0), omega (arith, r .1, end-tokens es z))
         go (halts es x) r = r
 
-    pub end-room : {widths : List ℕ} {m k : ℕ} {s : State} → EndOf t widths m k s → write ≡ true → (21 * m + 21 ≤ length lines₀) × (5 * (k + s .levels) ≤ length tokens₀)
+    pub end-room : {widths : List ℕ} {m k : ℕ} {s : State} → EndOf t widths m k s → write ≡ true → (lineSize * m + lineSize ≤ length lines₀) × (tokenSize * (k + s .levels) ≤ length tokens₀)
     end-room v w =
         let r = subst (λ (y : Reading). RoomIn y (length lines₀) (length tokens₀)) (v .is) (room w) in
         (omega (arith, r .0, v .count), omega (arith, r .1, all-tokens v))
@@ -110,8 +110,8 @@ module _ (t : List ℕ) (short : length t ≤ 1_048_576) where
       deep-pass l x = let y = deep-whole x in halted (y .0) overLimit (TooDeep l) (y .1) (ap TooDeep (y .2) ∙ ap passOf (sym (y .1)))
 
       -- the end's record and Dedents are written
-      pub end-pass : {widths : List ℕ} {m k : ℕ} {s : State} → EndOf t widths m k s → (lines′ tokens′ : List ℕ) → lines′ ≡ putIf write lines (21 * m) (lineRecord (length t) k (stateOf s widths))
-          → tokens′ ≡ putIf write tokens (5 * k) (tokenWords (length t) (m + 1) (dedents (s .levels))) → Passed (Records m (k + s .levels)) lines′ tokens′
+      pub end-pass : {widths : List ℕ} {m k : ℕ} {s : State} → EndOf t widths m k s → (lines′ tokens′ : List ℕ) → lines′ ≡ putIf write lines (lineSize * m) (lineRecord (length t) k (stateOf s widths))
+          → tokens′ ≡ putIf write tokens (tokenSize * k) (tokenWords (length t) (m + 1) (dedents (s .levels))) → Passed (Records m (k + s .levels)) lines′ tokens′
       unfolding recordsOf linesRead
       end-pass {widths} {m} {k} {s} v lines′ tokens′ el′ et′ =
           let z : rules-line.State = stateOf s widths in
@@ -121,9 +121,9 @@ module _ (t : List ℕ) (short : length t ≤ 1_048_576) where
           let hm : m ≡ 0 + m = omega arith in
           let L : lines ≡ putIf write lines₀ 0 (lineRecords 0 0 es) = el ∙ ap (λ (r : Reading). putIf write lines₀ 0 (lineRecords 0 0 (linesRead r))) (v .is) in
           let T : tokens ≡ putIf write tokens₀ 0 (tokenRecords 0 1 es) = et ∙ ap (λ (r : Reading). putIf write tokens₀ 0 (tokenRecords 0 1 (linesRead r))) (v .is) in
-          let L′ : lines′ ≡ putIf write lines (21 * (0 + m)) (lineRecord (length t) k z) = el′ ∙ ap (λ (n : ℕ). putIf write lines (21 * n) (lineRecord (length t) k z)) hm in
-          let T′ : tokens′ ≡ putIf write tokens (5 * k) (tokenWords (length t) (0 + m + 1) (endEntry z .tokens)) =
-          et′ ∙ (λ a. putIf write tokens (5 * k) (tokenWords (length t) (hm a + 1) (dedents (sym (v .levels) a)))) in (
+          let L′ : lines′ ≡ putIf write lines (lineSize * (0 + m)) (lineRecord (length t) k z) = el′ ∙ ap (λ (n : ℕ). putIf write lines (lineSize * n) (lineRecord (length t) k z)) hm in
+          let T′ : tokens′ ≡ putIf write tokens (tokenSize * k) (tokenWords (length t) (0 + m + 1) (endEntry z .tokens)) =
+          et′ ∙ (λ a. putIf write tokens (tokenSize * k) (tokenWords (length t) (hm a + 1) (dedents (sym (v .levels) a)))) in (
             (λ a. Records (sym (v .count) a) (sym (all-tokens v) a)) ∙ ap passOf (sym (v .is)),
             (
               more-lines write 0 0 0 es (endEntry z) m (length t) k (v .count) hp hk lines₀ lines lines′ L L′ ∙ ap (λ (r : Reading). putIf write lines₀ 0 (linesIn r)) (sym (v .is)),

@@ -5,7 +5,7 @@ ghost use Prim.Native.Nat.{_≤_};
 ghost use lib.ListN.{length};
 ghost use Rattle.rules.specs.Line.{initial};
 ghost use Rattle.rules.specs.Reading.{linesOf, readFrom};
-ghost use Rattle.rules.specs.Records.{readLines};
+ghost use Rattle.rules.specs.Records.{widthWords, readLines};
 ghost use Rattle.rules.specs.Replies.{barge};
 ghost use Rattle.rules.specs.Read.{filledBy, readInto};
 ghost use Rattle.spelling.specs.Bytes.{classTable, reachTable};
@@ -40,15 +40,15 @@ pub fn pass_lines(
     requires { ⌜ now index ≡ signIndexTable ⌝ }
     requires { ⌜ now signs ≡ signTable ⌝ }
     requires { ⌜ now keywords ≡ keywordTable ⌝ }
-    requires { ⌜ (length (now text) ≤ 1_048_576) × (length (now widths) ≡ 16) ⌝ }
+    requires { ⌜ (length (now text) ≤ 1_048_576) × (length (now widths) ≡ widthWords) ⌝ }
     requires { ⌜ (write ≡ true → RoomIn (readFrom 16 initial (linesOf (now text))) (length (now lines)) (length (now tokens))) ⌝ }
     ensures { λ r. ⌜ r ≡ passOf (readFrom 16 initial (linesOf (now (text .entry)))) ⌝ }
     ensures { λ _. ⌜ now (lines .exit) ≡ putIf write (now (lines .entry)) 0 (linesIn (readFrom 16 initial (linesOf (now (text .entry))))) ⌝ }
     ensures { λ _. ⌜ now (tokens .exit) ≡ putIf write (now (tokens .entry)) 0 (tokensIn (readFrom 16 initial (linesOf (now (text .entry))))) ⌝ }
 {
     let n = text.len();
-    let none: [u32; 21] = [0; 21];
-    let start = line::State {
+    let none: [u32; records::LINE] = [0; records::LINE];
+    let start = records::State {
         depth: 0,
         arrow: false,
         levels: 0,
@@ -75,7 +75,7 @@ pub fn pass_lines(
         start,
     ) {
         rereading::Reread::Ends(m, k, s) => {
-            lines::put_line(lines, write, m, n as u32, k as u32, s, widths);
+            records::put_line(lines, write, m, n as u32, k as u32, s, widths);
             line::put_dedents(tokens, write, k, s.levels, n as u32, m as u32 + 1);
             Pass::Records(m, k + s.levels)
         }
@@ -97,7 +97,7 @@ pub fn count_lines(text: &[u8]) -> Pass
     let keywords = spelling::keyword_table();
     let mut lines: [u32; 1] = [0];
     let mut tokens: [u32; 1] = [0];
-    let mut widths: [u32; 16] = [0; 16];
+    let mut widths: [u32; records::LEVELS] = [0; records::LEVELS];
     pass_lines(
         &class,
         &reach,
@@ -142,17 +142,17 @@ fn store_records(
     requires { ⌜ now index ≡ signIndexTable ⌝ }
     requires { ⌜ now signs ≡ signTable ⌝ }
     requires { ⌜ now keywords ≡ keywordTable ⌝ }
-    requires { ⌜ (length (now text) ≤ 1_048_576) × (length (now widths) ≡ 16) ⌝ }
+    requires { ⌜ (length (now text) ≤ 1_048_576) × (length (now widths) ≡ widthWords) ⌝ }
     requires { ⌜ Counted m k (readFrom 16 initial (linesOf (now text))) ⌝ }
     ensures { λ r. ⌜ readNumbers r ≡ filledBy (now (lines .entry)) (now (tokens .entry)) (readLines barge (now (text .entry))) .reply ⌝ }
     ensures { λ _. ⌜ now (lines .exit) ≡ filledBy (now (lines .entry)) (now (tokens .entry)) (readLines barge (now (text .entry))) .lines ⌝ }
     ensures { λ _. ⌜ now (tokens .exit) ≡ filledBy (now (lines .entry)) (now (tokens .entry)) (readLines barge (now (text .entry))) .tokens ⌝ }
 {
-    if lines.len() < 21 * (m + 1) {
-        return ReadAnswer::ShortLines(21 * (m + 1));
+    if lines.len() < records::LINE * (m + 1) {
+        return ReadAnswer::ShortLines(records::LINE * (m + 1));
     }
-    if tokens.len() < 5 * k {
-        return ReadAnswer::ShortTokens(5 * k);
+    if tokens.len() < records::TOKEN * k {
+        return ReadAnswer::ShortTokens(records::TOKEN * k);
     }
     let _ = pass_lines(
         class,
@@ -181,7 +181,7 @@ fn read_lines(text: &[u8], lines: &mut [u32], tokens: &mut [u32]) -> ReadAnswer
     let index = spelling::sign_index();
     let signs = spelling::sign_table();
     let keywords = spelling::keyword_table();
-    let mut widths: [u32; 16] = [0; 16];
+    let mut widths: [u32; records::LEVELS] = [0; records::LEVELS];
     match pass_lines(
         &class,
         &reach,

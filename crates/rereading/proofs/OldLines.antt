@@ -13,7 +13,7 @@ use Rattle.rules.specs.Lists.{same}
 use Rattle.rules.specs.Line.{State, initial}
 use Rattle.rules.specs.Reading.{linesOf, Entry, reads, readFrom, byteSum, tokenSum, stateAt}
 use Rattle.rules.specs.Replies.{maxLevels}
-use Rattle.rules.specs.Records.{lineNeed, stateWords, lineRecord, lineRecords, endEntry, withEnd}
+use Rattle.rules.specs.Records.{lineSize, lineNeed, stateWords, lineRecord, lineRecords, endEntry, withEnd}
 use Rattle.rules.specs.StopRule.{Edit, edited, keptFrom, marksFrom, sameState, isStop}
 use Rattle.rules.proofs.LineLaws.{total}
 use Rattle.rules.proofs.ReadingLaws.{parts}
@@ -22,13 +22,14 @@ use Rattle.rules.proofs.StateLaws.{same-true, same-refl}
 use Rattle.rules.proofs.StopLaws.{mark, Positive, read-positive, line-at-byte}
 use Rattle.rules.proofs.MendLaws.{keptLines, no-stop}
 use Rattle.rules.proofs.BoundLaws.{StateOk, entries-ok, AllLe}
-use Rattle.rereading.specs.Words.{startWord, stateIn, oldByte, FirstFrom, stopsAt}
+use Rattle.records.specs.Words.{startWord, stateIn}
+use Rattle.rereading.specs.Words.{oldByte, FirstFrom, stopsAt}
 use Rattle.rereading.proofs.Words.{stop-near, stop-here}
 
 -- Records of lines by their words.
 
 -- a record's words from the third on
-after-two : (l : List ℕ) → drop 2 (take 21 l) ≡ take 19 (drop 2 l)
+after-two : (l : List ℕ) → drop 2 (take lineSize l) ≡ take 19 (drop 2 l)
 after-two [] = refl
 after-two (a ∷ []) = refl
 after-two (a ∷ b ∷ l) = refl
@@ -37,34 +38,34 @@ module _ (lines : List ℕ) (m : ℕ) (es : List Entry) (end : State) (hm : m �
   abbrev whole : List ℕ
   whole = lineRecords 0 0 (withEnd es end)
 
-  long : length whole ≡ 21 * (m + 1)
+  long : length whole ≡ lineSize * (m + 1)
   long = length-lineRecords 0 0 (withEnd es end) ∙ omega (arith, length-append es (endEntry end ∷ []))
 
   -- line record x, that of the end included
-  pub record-in : (x : ℕ) → x ≤ m → take 21 (drop (21 * x) lines) ≡ lineRecord (byteSum (take x es)) (tokenSum (take x es)) (stateAt es end x)
+  pub record-in : (x : ℕ) → x ≤ m → take lineSize (drop (lineSize * x) lines) ≡ lineRecord (byteSum (take x es)) (tokenSum (take x es)) (stateAt es end x)
   record-in x h =
       let e : lines ≡ whole ++ drop (lineNeed m) lines = sym (take-append-drop (lineNeed m) lines) ∙ ap (λ (l : List ℕ). l ++ drop (lineNeed m) lines) hl in
-      ap (λ (l : List ℕ). take 21 (drop (21 * x) l)) e
-      ∙ ap (take 21) (drop-append-le (21 * x) whole (drop (lineNeed m) lines) (omega (arith, long)))
-      ∙ take-append-le 21 (drop (21 * x) whole) (drop (lineNeed m) lines) (omega (arith, long, length-drop (21 * x) whole))
+      ap (λ (l : List ℕ). take lineSize (drop (lineSize * x) l)) e
+      ∙ ap (take lineSize) (drop-append-le (lineSize * x) whole (drop (lineNeed m) lines) (omega (arith, long)))
+      ∙ take-append-le lineSize (drop (lineSize * x) whole) (drop (lineNeed m) lines) (omega (arith, long, length-drop (lineSize * x) whole))
       ∙ record-at es end x (omega arith)
 
   pub start-is : (x : ℕ) → x ≤ m → startWord lines x ≡ byteSum (take x es)
   unfolding lineRecord
   start-is x h =
-      ap (λ (n : ℕ). getD lines n 0) (sym (add-zero (21 * x))) ∙ sym (getD-drop (21 * x) lines 0 0) ∙ sym (getD-take 21 (drop (21 * x) lines) 0 0 (omega arith))
+      ap (λ (n : ℕ). getD lines n 0) (sym (add-zero (lineSize * x))) ∙ sym (getD-drop (lineSize * x) lines 0 0) ∙ sym (getD-take lineSize (drop (lineSize * x) lines) 0 0 (omega arith))
       ∙ ap (λ (l : List ℕ). getD l 0 0) (record-in x h)
 
-  pub first-is : (x : ℕ) → x ≤ m → getD lines (21 * x + 1) 0 ≡ tokenSum (take x es)
+  pub first-is : (x : ℕ) → x ≤ m → getD lines (lineSize * x + 1) 0 ≡ tokenSum (take x es)
   unfolding lineRecord
   first-is x h =
-      sym (getD-drop (21 * x) lines 1 0) ∙ sym (getD-take 21 (drop (21 * x) lines) 1 0 (omega arith))
+      sym (getD-drop (lineSize * x) lines 1 0) ∙ sym (getD-take lineSize (drop (lineSize * x) lines) 1 0 (omega arith))
       ∙ ap (λ (l : List ℕ). getD l 1 0) (record-in x h)
 
   pub state-is : (x : ℕ) → x ≤ m → stateIn lines x ≡ stateWords (stateAt es end x)
   unfolding lineRecord
   state-is x h =
-      ap (take 19) (sym (drop-drop 2 (21 * x) lines)) ∙ sym (after-two (drop (21 * x) lines)) ∙ ap (drop 2) (record-in x h)
+      ap (take 19) (sym (drop-drop 2 (lineSize * x) lines)) ∙ sym (after-two (drop (lineSize * x) lines)) ∙ ap (drop 2) (record-in x h)
 
 -- Lines have bytes, so their starts rise.
 

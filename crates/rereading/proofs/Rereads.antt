@@ -17,7 +17,7 @@ use Rattle.rules.specs.Line as rules-line
 use Rattle.rules.specs.Line.{Token, Halt, failed, overLimit, lineReads, lineHalts, readLine}
 use Rattle.rules.specs.Reading.{linesOf, Entry, entry, Reading, reads, halts, readFrom, byteSum, tokenSum, stateAt, lineAt, sizeAt}
 use Rattle.rules.specs.Replies.{maxLevels}
-use Rattle.rules.specs.Records.{stateWords}
+use Rattle.rules.specs.Records.{widthWords, stateWords}
 use Rattle.rules.specs.StopRule.{edited, marksFrom, sameState, isStop, fromByte}
 use Rattle.rules.proofs.ListLaws.{and-true}
 use Rattle.rules.proofs.ReadingLaws.{read-sizes, byteSum-append}
@@ -25,12 +25,13 @@ use Rattle.rules.proofs.StateLaws.{sameState-words}
 use Rattle.rules.proofs.StopLaws.{mark}
 use Rattle.rules.proofs.MendLaws.{no-stop, kept-size, kept-length}
 use Rattle.rules.proofs.LoopLaws.{ReadTo, read-end, read-stuck, RereadTo, reread-start, reread-test, reread-line, reread-stop, reread-end, reread-stuck}
-use Rattle.line.specs.declared.State.{State}
-use Rattle.line.specs.States.{stateOf}
+use Rattle.records.specs.declared.State.{State}
+use Rattle.records.specs.States.{stateOf}
 use Rattle.lines.specs.Steps.{recordIn}
 use Rattle.lines.proofs.Lines.{PassTo, pass-start, levels-are, next-pass}
 use Rattle.lines.specs.declared.FailureRecord.{FailureRecord}
-use Rattle.rereading.specs.Words.{startWord, stateIn, oldByte, FirstFrom, stopsAt}
+use Rattle.records.specs.Words.{startWord, stateIn}
+use Rattle.rereading.specs.Words.{oldByte, FirstFrom, stopsAt}
 use Rattle.rereading.specs.Rereads.{Old, Lines, FailsAs, DeepAs, RereadIs}
 use Rattle.rereading.specs.declared.Reread.the-variants.{Stops, Ends, Fails, TooDeep}
 use Rattle.rereading.proofs.Words.{stop-near, stop-here}
@@ -69,7 +70,7 @@ module _ (rest lines : List ℕ) (base i m from b kept : ℕ) (z₀ : rules-line
     pub low : byteSum (take r (o .entries)) ≤ oldByte b kept (base + q)
     pub here : kept < base + q → (byteSum (take r (o .entries)) ≡ oldByte b kept (base + q)) × (r < length (o .entries))
 
-pub come-start : {rest lines : List ℕ} {base i m from b kept : ℕ} (widths : List ℕ) (s : State) → s .levels ≤ 16 → length widths ≡ 16 → from ≤ m
+pub come-start : {rest lines : List ℕ} {base i m from b kept : ℕ} (widths : List ℕ) (s : State) → s .levels ≤ widthWords → length widths ≡ widthWords → from ≤ m
     → ComeTo rest lines base i m from b kept (stateOf s widths) [] widths 0 0 0 from s
 come-start {rest} {b = b} widths s few wide h =
     record {
@@ -146,7 +147,7 @@ module _ {rest lines : List ℕ} {base i m from b kept : ℕ} {z₀ : rules-line
 
     -- the next line is read
     pub next-come : stopsAt lines r b kept (base + q) z ≡ false → (widths′ : List ℕ) (q′ n : ℕ) (s′ : State) (ts : List Token)
-        → readLine 16 z (lineAt rest q) ≡ lineReads ts (stateOf s′ widths′) → n ≡ length ts → q′ ≡ q + sizeAt rest q → s′ .levels ≤ 16 → length widths′ ≡ 16
+        → readLine 16 z (lineAt rest q) ≡ lineReads ts (stateOf s′ widths′) → n ≡ length ts → q′ ≡ q + sizeAt rest q → s′ .levels ≤ widthWords → length widths′ ≡ widthWords
         → ComeTo rest lines base i m from b kept z₀ (es ++ (entry z (sizeAt rest q) ts ∷ [])) widths′ q′ (c + 1) (k + n) r s′
     next-come e widths′ q′ n s′ ts l hn hq few′ wide′ =
         let x : Entry = entry z (sizeAt rest q) ts in

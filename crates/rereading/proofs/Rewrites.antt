@@ -10,14 +10,14 @@ use lib.ListN.{length, drop, length-append}
 use Rattle.rules.specs.Line as rules-line
 use Rattle.rules.specs.Line.{Token, Halt, LineReply, lineReads, lineHalts, readLine}
 use Rattle.rules.specs.Reading.{linesOf, Entry, entry, Reading, reads, halts, readFrom, linesRead, byteSum, tokenSum, lineAt, sizeAt}
-use Rattle.rules.specs.Records.{lineRecord, lineRecords, tokenWords, tokenRecords}
+use Rattle.rules.specs.Records.{lineSize, tokenSize, lineRecord, lineRecords, tokenWords, tokenRecords}
 use Rattle.rules.proofs.ReadingLaws.{withEntries, withEntries-reads, withEntries-halts, tokenSum-append}
 use Rattle.rules.proofs.RecordLaws.{lineRecords-append, length-lineRecords, tokenRecords-append, length-tokenRecords}
 use Rattle.rules.proofs.LoopLaws.{ReadTo, read-line, read-stuck, read-rest}
 use Rattle.laws.specs.Puts.{putIf}
 use Rattle.laws.proofs.Puts.{length-putIf, putIf-append, putIf-none, putIf-by}
-use Rattle.line.specs.declared.State.{State}
-use Rattle.line.specs.States.{stateOf}
+use Rattle.records.specs.declared.State.{State}
+use Rattle.records.specs.States.{stateOf}
 use Rattle.line.specs.LineCuts.{RoomIn, tokensIn}
 use Rattle.lines.proofs.Lines.{PassTo}
 use Rattle.rereading.specs.Rewrites.{RoomFrom, FewFrom, MayPut, Reaches}
@@ -25,53 +25,53 @@ use Rattle.rereading.specs.Rewrites.{RoomFrom, FewFrom, MayPut, Reaches}
 -- The records of one line more, which may be the end.
 
 module _ (write : Bool) (base i first : ℕ) (es : List Entry) (e : Entry) (c p k : ℕ) (hc : length es ≡ c) (hp : base + byteSum es ≡ p) (hk : first + tokenSum es ≡ k) where
-  pub more-lines : (l₀ l l′ : List ℕ) → l ≡ putIf write l₀ (21 * i) (lineRecords base first es) → l′ ≡ putIf write l (21 * (i + c)) (lineRecord p k (e .before))
-      → l′ ≡ putIf write l₀ (21 * i) (lineRecords base first (es ++ (e ∷ [])))
+  pub more-lines : (l₀ l l′ : List ℕ) → l ≡ putIf write l₀ (lineSize * i) (lineRecords base first es) → l′ ≡ putIf write l (lineSize * (i + c)) (lineRecord p k (e .before))
+      → l′ ≡ putIf write l₀ (lineSize * i) (lineRecords base first (es ++ (e ∷ [])))
   unfolding lineRecords
   more-lines l₀ l l′ el q =
       let had : List ℕ = lineRecords base first es in
       let more : List ℕ = lineRecord p k (e .before) in
-      let long : 21 * (i + c) ≡ 21 * i + length had = omega (arith, length-lineRecords base first es, hc) in
+      let long : lineSize * (i + c) ≡ lineSize * i + length had = omega (arith, length-lineRecords base first es, hc) in
       let both : lineRecords base first (es ++ (e ∷ [])) ≡ had ++ more =
       lineRecords-append base first es (e ∷ []) ∙ ap (λ (x : List ℕ). had ++ x) (append-nil (lineRecord (base + byteSum es) (first + tokenSum es) (e .before)) ∙ (λ a. lineRecord (hp a) (hk a) (e .before))) in
-      q ∙ ap (λ (x : List ℕ). putIf write x (21 * (i + c)) more) el ∙ putIf-append write l₀ (21 * i) (21 * (i + c)) had more long ∙ ap (putIf write l₀ (21 * i)) (sym both)
+      q ∙ ap (λ (x : List ℕ). putIf write x (lineSize * (i + c)) more) el ∙ putIf-append write l₀ (lineSize * i) (lineSize * (i + c)) had more long ∙ ap (putIf write l₀ (lineSize * i)) (sym both)
 
-  pub more-tokens : (l₀ l l′ : List ℕ) → l ≡ putIf write l₀ (5 * first) (tokenRecords base (i + 1) es) → l′ ≡ putIf write l (5 * k) (tokenWords p (i + c + 1) (e .tokens))
-      → l′ ≡ putIf write l₀ (5 * first) (tokenRecords base (i + 1) (es ++ (e ∷ [])))
+  pub more-tokens : (l₀ l l′ : List ℕ) → l ≡ putIf write l₀ (tokenSize * first) (tokenRecords base (i + 1) es) → l′ ≡ putIf write l (tokenSize * k) (tokenWords p (i + c + 1) (e .tokens))
+      → l′ ≡ putIf write l₀ (tokenSize * first) (tokenRecords base (i + 1) (es ++ (e ∷ [])))
   unfolding tokenRecords
   more-tokens l₀ l l′ el q =
       let had : List ℕ = tokenRecords base (i + 1) es in
       let more : List ℕ = tokenWords p (i + c + 1) (e .tokens) in
-      let long : 5 * k ≡ 5 * first + length had = omega (arith, length-tokenRecords base (i + 1) es, hk) in
+      let long : tokenSize * k ≡ tokenSize * first + length had = omega (arith, length-tokenRecords base (i + 1) es, hk) in
       let number : i + 1 + length es ≡ i + c + 1 = omega (arith, hc) in
       let both : tokenRecords base (i + 1) (es ++ (e ∷ [])) ≡ had ++ more =
       tokenRecords-append base (i + 1) es (e ∷ []) ∙ ap (λ (x : List ℕ). had ++ x) (append-nil (tokenWords (base + byteSum es) (i + 1 + length es) (e .tokens)) ∙ (λ a. tokenWords (hp a) (number a) (e .tokens))) in
-      q ∙ ap (λ (x : List ℕ). putIf write x (5 * k) more) el ∙ putIf-append write l₀ (5 * first) (5 * k) had more long ∙ ap (putIf write l₀ (5 * first)) (sym both)
+      q ∙ ap (λ (x : List ℕ). putIf write x (tokenSize * k) more) el ∙ putIf-append write l₀ (tokenSize * first) (tokenSize * k) had more long ∙ ap (putIf write l₀ (tokenSize * first)) (sym both)
 
 -- The buffers hold the records of the lines es, where the pass writes.
 pub record PutTo (write : Bool) (base i first : ℕ) (lines₀ tokens₀ : List ℕ) (es : List Entry) (lines tokens : List ℕ) : Type 0 where
-  pub line-words : lines ≡ putIf write lines₀ (21 * i) (lineRecords base first es)
-  pub token-words : tokens ≡ putIf write tokens₀ (5 * first) (tokenRecords base (i + 1) es)
+  pub line-words : lines ≡ putIf write lines₀ (lineSize * i) (lineRecords base first es)
+  pub token-words : tokens ≡ putIf write tokens₀ (tokenSize * first) (tokenRecords base (i + 1) es)
 
 pub put-start : {write : Bool} {base i first : ℕ} {lines₀ tokens₀ : List ℕ} → PutTo write base i first lines₀ tokens₀ [] lines₀ tokens₀
 unfolding lineRecords tokenRecords
 put-start {write} {base} {i} {first} {lines₀} {tokens₀} =
-    record { line-words = sym (putIf-none write lines₀ (21 * i)); token-words = sym (putIf-none write tokens₀ (5 * first)) }
+    record { line-words = sym (putIf-none write lines₀ (lineSize * i)); token-words = sym (putIf-none write tokens₀ (tokenSize * first)) }
 
 module _ {write : Bool} {base i first : ℕ} {lines₀ tokens₀ : List ℕ} {es : List Entry} {lines tokens : List ℕ} (w : PutTo write base i first lines₀ tokens₀ es lines tokens) where
   pub lines-kept : length lines ≡ length lines₀
-  lines-kept = ap length (w .line-words) ∙ length-putIf write lines₀ (21 * i) (lineRecords base first es)
+  lines-kept = ap length (w .line-words) ∙ length-putIf write lines₀ (lineSize * i) (lineRecords base first es)
 
   pub tokens-kept : length tokens ≡ length tokens₀
-  tokens-kept = ap length (w .token-words) ∙ length-putIf write tokens₀ (5 * first) (tokenRecords base (i + 1) es)
+  tokens-kept = ap length (w .token-words) ∙ length-putIf write tokens₀ (tokenSize * first) (tokenRecords base (i + 1) es)
 
   -- a pass that does not write leaves the buffers as they were
   pub unwritten : (write ≡ true → ⊥) → {lines′ tokens′ : List ℕ} (a b : ℕ) (xs ys : List ℕ) → lines′ ≡ putIf write lines a xs → tokens′ ≡ putIf write tokens b ys
       → (es′ : List Entry) → PutTo write base i first lines₀ tokens₀ es′ lines′ tokens′
   unwritten nothing a b xs ys el et es′ =
       record {
-        line-words = el ∙ putIf-by write lines a xs [] (λ x. absurd (nothing x)) ∙ putIf-none write lines a ∙ w .line-words ∙ putIf-by write lines₀ (21 * i) _ _ (λ x. absurd (nothing x));
-        token-words = et ∙ putIf-by write tokens b ys [] (λ x. absurd (nothing x)) ∙ putIf-none write tokens b ∙ w .token-words ∙ putIf-by write tokens₀ (5 * first) _ _ (λ x. absurd (nothing x));
+        line-words = el ∙ putIf-by write lines a xs [] (λ x. absurd (nothing x)) ∙ putIf-none write lines a ∙ w .line-words ∙ putIf-by write lines₀ (lineSize * i) _ _ (λ x. absurd (nothing x));
+        token-words = et ∙ putIf-by write tokens b ys [] (λ x. absurd (nothing x)) ∙ putIf-none write tokens b ∙ w .token-words ∙ putIf-by write tokens₀ (tokenSize * first) _ _ (λ x. absurd (nothing x));
       }
 
   pub all-put : {x : Reading} {z : rules-line.State} → x ≡ reads es z → PutTo write base i first lines₀ tokens₀ (linesRead x) lines tokens
@@ -117,7 +117,7 @@ module _ {t : List ℕ} {z₀ : rules-line.State} {es : List Entry} {widths : Li
       go (lineHalts x) l = absurd (not-both e (read-stuck 16 z₀ t q es z (v .to) x h l))
 
   next-room : (i first lines tokens : ℕ) (x : Reading) → readFrom 16 z₀ (linesOf t) ≡ x → RoomFrom x i first lines tokens
-      → (21 * (i + c) + 21 ≤ lines) × RoomIn (readLine 16 z (lineAt t q)) (first + k) tokens
+      → (lineSize * (i + c) + lineSize ≤ lines) × RoomIn (readLine 16 z (lineAt t q)) (first + k) tokens
   next-room i first lines tokens (halts all x) e r = absurd r
   next-room i first lines tokens (reads all end) e r =
       let n = next-of all end e in
@@ -129,14 +129,14 @@ module _ {t : List ℕ} {z₀ : rules-line.State} {es : List Entry} {widths : Li
 
   -- the next line's token and, where the pass writes, its room
   pub may-next : {write : Bool} {end kept i first lines tokens : ℕ} → MayPut write (readFrom 16 z₀ (linesOf t)) end kept i first lines tokens → k ≤ 3_000_000
-      → (first + k ≤ 3_000_000) × (write ≡ true → (21 * (i + c) + 21 ≤ lines) × RoomIn (readLine 16 z (lineAt t q)) (first + k) tokens)
+      → (first + k ≤ 3_000_000) × (write ≡ true → (lineSize * (i + c) + lineSize ≤ lines) × RoomIn (readLine 16 z (lineAt t q)) (first + k) tokens)
   may-next {i = i} {first} {lines} {tokens} r few =
       (⊎-elim (λ (e : first ≡ 0). omega (arith, e)) (λ (x : FewFrom (readFrom 16 z₀ (linesOf t)) first). next-few first _ refl x) (r .few), λ e. next-room i first lines tokens _ refl (r .room e))
 
   -- the next line is written
   pub put-next : {write : Bool} {base i first : ℕ} {lines₀ tokens₀ lines tokens lines′ tokens′ : List ℕ} → PutTo write base i first lines₀ tokens₀ es lines tokens
-      → (ts : List Token) (y : rules-line.State) → readLine 16 z (lineAt t q) ≡ lineReads ts y → lines′ ≡ putIf write lines (21 * (i + c)) (lineRecord (base + q) (first + k) z)
-      → tokens′ ≡ putIf write tokens (5 * (first + k)) (tokenWords (base + q) (i + c + 1) (tokensIn (readLine 16 z (lineAt t q))))
+      → (ts : List Token) (y : rules-line.State) → readLine 16 z (lineAt t q) ≡ lineReads ts y → lines′ ≡ putIf write lines (lineSize * (i + c)) (lineRecord (base + q) (first + k) z)
+      → tokens′ ≡ putIf write tokens (tokenSize * (first + k)) (tokenWords (base + q) (i + c + 1) (tokensIn (readLine 16 z (lineAt t q))))
       → PutTo write base i first lines₀ tokens₀ (es ++ (entry z (sizeAt t q) ts ∷ [])) lines′ tokens′
   put-next {write} {base} {i} {first} {lines₀} {tokens₀} {lines} {tokens} {lines′} {tokens′} w ts y l el et =
       let x : Entry = entry z (sizeAt t q) ts in
@@ -145,7 +145,7 @@ module _ {t : List ℕ} {z₀ : rules-line.State} {es : List Entry} {widths : Li
       record {
         line-words = more-lines write base i first es x c (base + q) (first + k) (v .count) hp hk lines₀ lines lines′ (w .line-words) el;
         token-words = more-tokens write base i first es x c (base + q) (first + k) (v .count) hp hk tokens₀ tokens tokens′ (w .token-words)
-            (et ∙ ap (λ (r : LineReply). putIf write tokens (5 * (first + k)) (tokenWords (base + q) (i + c + 1) (tokensIn r))) l);
+            (et ∙ ap (λ (r : LineReply). putIf write tokens (tokenSize * (first + k)) (tokenWords (base + q) (i + c + 1) (tokensIn r))) l);
       }
 
 -- A pass that writes meets no halt.

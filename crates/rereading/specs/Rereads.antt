@@ -13,7 +13,8 @@ use Rattle.rules.specs.Records.{lineNeed, lineRecords, withEnd}
 use Rattle.rules.specs.StopRule.{Edit, edited, keptFrom, rereadCount, fromLine, fromByte, fromState}
 use Rattle.lines.specs.Steps.{recordIn}
 use Rattle.lines.specs.declared.FailureRecord.{FailureRecord}
-use Rattle.rereading.specs.Words.{startWord, oldByte}
+use Rattle.records.specs.Words.{startWord}
+use Rattle.rereading.specs.Words.{oldByte}
 use Rattle.rereading.specs.declared.Reread.{Reread}
 use Rattle.rereading.specs.declared.Reread.the-variants.{Stops, Ends, Fails, TooDeep}
 

@@ -8,13 +8,14 @@ use mathlib.Core.Logic.{_⊎_}
 use lib.ListN.{length}
 use Rattle.rules.specs.Line.{State}
 use Rattle.rules.specs.Reading.{Reading, reads, halts, tokenSum}
-use Rattle.line.specs.States.{stateOf}
+use Rattle.rules.specs.Records.{widthWords, lineSize, tokenSize}
+use Rattle.records.specs.States.{stateOf}
 use Rattle.rereading.specs.declared.Reread.{Reread}
 use Rattle.rereading.specs.declared.Reread.the-variants.{Stops, Ends, Fails, TooDeep}
 
 -- the lines read, and buffers of these lengths hold their records from record i and token k on
 abbrev pub RoomFrom : Reading → (i k lines tokens : ℕ) → Type 0
-RoomFrom (reads es z) i k lines tokens = (21 * (i + length es) ≤ lines) × (5 * (k + tokenSum es) ≤ tokens)
+RoomFrom (reads es z) i k lines tokens = (lineSize * (i + length es) ≤ lines) × (tokenSize * (k + tokenSum es) ≤ tokens)
 RoomFrom (halts es h) i k lines tokens = ⊥
 
 -- the lines read, and their tokens from token k on have small numbers
@@ -35,7 +36,7 @@ Reaches (halts es h) s = ⊥
 
 -- where reading on comes to the end, it is in this state, with these widths
 abbrev pub EndsIn : Reading → (widths : List ℕ) → Reread → Type 0
-EndsIn x widths (Ends c k s) = Reaches x (stateOf s widths) × (s .levels ≤ 16)
+EndsIn x widths (Ends c k s) = Reaches x (stateOf s widths) × (s .levels ≤ widthWords)
 EndsIn x widths (Stops c k q j) = Unit {0}
 EndsIn x widths (Fails r) = Unit {0}
 EndsIn x widths (TooDeep l) = Unit {0}

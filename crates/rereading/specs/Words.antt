@@ -1,22 +1,14 @@
 -- Old line records, by their words.
 -- Assumes nothing.
-use Prim.Native.Nat.{ℕ, _+_, _-_, _*_, _≤_, _<_}
+use Prim.Native.Nat.{ℕ, _+_, _-_, _≤_, _<_}
 use mathlib.Core.Path.{_≡_}
 use mathlib.Core.Bool.{Bool, _&&_}
 use mathlib.Core.List.{List}
 use lib.Dec.{ltb, eqb}
-use lib.ListN.{getD, take, drop}
 use Rattle.rules.specs.Lists.{same}
 use Rattle.rules.specs.Line.{State}
 use Rattle.rules.specs.Records.{stateWords}
-
--- the start in record j
-abbrev pub startWord : List ℕ → (j : ℕ) → ℕ
-startWord lines j = getD lines (21 * j) 0
-
--- the words of the state in record j
-abbrev pub stateIn : List ℕ → (j : ℕ) → List ℕ
-stateIn lines j = take 19 (drop (21 * j + 2) lines)
+use Rattle.records.specs.Words.{startWord, stateIn}
 
 -- the byte of the old text that stands at p in the edited one, where p is in the kept tail
 abbrev pub oldByte : (b kept p : ℕ) → ℕ

@@ -3,30 +3,29 @@ ghost use mathlib.Core.Path.{_≡_};
 ghost use mathlib.Core.Bool.{true};
 ghost use mathlib.Core.List.{[], _∷_};
 ghost use Prim.Native.Nat.{suc, _+_, _-_, _*_, _≤_, _<_};
-ghost use lib.ListN.{length, getD, take, drop};
+ghost use lib.ListN.{length, getD};
 ghost use lib.Seq.{sets};
-ghost use Rattle.rules.specs.Lists.{same};
 ghost use Rattle.rules.specs.Line.{readLine};
 ghost use Rattle.rules.specs.Reading.{linesOf, readFrom, linesRead};
-ghost use Rattle.rules.specs.Records.{stateWords, lineRecord, lineRecords, tokenWords, tokenRecords, packed};
+ghost use Rattle.rules.specs.Records.{widthWords, lineSize, tokenSize, lineRecord, lineRecords, tokenWords, tokenRecords};
 ghost use Rattle.spelling.specs.Bytes.{classTable, reachTable};
 ghost use Rattle.spelling.specs.Rows.{keywordTable};
 ghost use Rattle.spelling.specs.Signs.{signTable, signIndexTable};
-ghost use Rattle.line.specs.States.{stateOf};
+ghost use Rattle.records.specs.States.{stateOf};
 ghost use Rattle.line.specs.LineCuts.{tokensIn, RoomIn};
 ghost use Rattle.laws.specs.Puts.{putIf};
-ghost use Rattle.rereading.specs.Words.{startWord, stateIn, oldByte, FirstFrom, stopsAt};
+ghost use Rattle.rereading.specs.Words.{oldByte, FirstFrom, stopsAt};
 ghost use Rattle.rereading.specs.Rereads.{RereadIs};
 ghost use Rattle.rereading.specs.Rewrites.{RoomFrom, FewFrom, MayPut, Reaches, EndsIn};
 
 // From record j on, the first of m that starts at the byte `at` or beyond.
 fn first_from(lines: &[u32], m: usize, j: usize, at: usize) -> usize
-    requires { ⌜ (j ≤ m) × ((m ≤ 4_294_967_295) × (21 * (m + 1) ≤ length (now lines))) ⌝ }
+    requires { ⌜ (j ≤ m) × ((m ≤ 4_294_967_295) × (lineSize * (m + 1) ≤ length (now lines))) ⌝ }
     ensures { λ r. ⌜ FirstFrom (now (lines .entry)) m j at r ⌝ }
 {
     let mut r = j;
     while r < m {
-        if at <= lines[21 * r] as usize {
+        if at <= lines[records::LINE * r] as usize {
             return r;
         }
         r += 1;
@@ -45,7 +44,7 @@ fn old_byte(b: usize, kept: usize, p: usize) -> usize
 // The old line to compare with at byte `at` of the edited text: record j up to a + |w|, beyond it the first from j on that starts at
 // the same byte of the kept tail or further on.
 fn old_line(lines: &[u32], m: usize, j: usize, b: usize, kept: usize, at: usize) -> usize
-    requires { ⌜ (j ≤ m) × ((m ≤ 4_294_967_295) × (21 * (m + 1) ≤ length (now lines))) ⌝ }
+    requires { ⌜ (j ≤ m) × ((m ≤ 4_294_967_295) × (lineSize * (m + 1) ≤ length (now lines))) ⌝ }
     requires { ⌜ (b ≤ 4_294_967_295) × (at ≤ 1_048_576) ⌝ }
     ensures { λ r. ⌜ (at ≤ kept → r ≡ j) × (kept < at → FirstFrom (now (lines .entry)) m j (oldByte b kept at) r) ⌝ }
     ensures { λ r. ⌜ r ≤ m ⌝ }
@@ -56,39 +55,6 @@ fn old_line(lines: &[u32], m: usize, j: usize, b: usize, kept: usize, at: usize)
     first_from(lines, m, j, old_byte(b, kept, at))
 }
 
-// The 16 widths from `at` on are those of the open levels, and 0 for each other one.
-fn same_widths(lines: &[u32], at: usize, widths: &[u32], levels: usize) -> bool
-    requires { ⌜ (length (now widths) ≡ 16) × ((levels ≤ 16) × (at + 16 ≤ length (now lines))) ⌝ }
-    ensures { λ r. ⌜ r ≡ same (take 16 (drop at (now (lines .entry)))) (packed (take levels (now (widths .entry)))) ⌝ }
-{
-    let mut i: usize = 0;
-    while i < 16 {
-        if lines[at + i] != lines::width_at(widths, levels, i) {
-            return false;
-        }
-        i += 1;
-    }
-    true
-}
-
-// The state in record j is this one.
-fn same_state(lines: &[u32], j: usize, s: line::State, widths: &[u32]) -> bool
-    requires { ⌜ (length (now widths) ≡ 16) × ((s .levels ≤ 16) × ((j ≤ 4_294_967_295) × (21 * (j + 1) ≤ length (now lines)))) ⌝ }
-    ensures { λ r. ⌜ r ≡ same (stateIn (now (lines .entry)) j) (stateWords (stateOf s (now (widths .entry)))) ⌝ }
-{
-    let at = 21 * j + 2;
-    if lines[at] != s.depth {
-        return false;
-    }
-    if lines[at + 1] != s.arrow as u32 {
-        return false;
-    }
-    if lines[at + 2] != s.levels as u32 {
-        return false;
-    }
-    same_widths(lines, at + 3, widths, s.levels)
-}
-
 // Re-reading stops at byte p in this state, where record j is the one to compare with.
 fn stops_at(
     lines: &[u32],
@@ -96,27 +62,27 @@ fn stops_at(
     b: usize,
     kept: usize,
     p: usize,
-    s: line::State,
+    s: records::State,
     widths: &[u32],
 ) -> bool
-    requires { ⌜ (length (now widths) ≡ 16) × ((s .levels ≤ 16) × ((j ≤ 4_294_967_295) × (21 * (j + 1) ≤ length (now lines)))) ⌝ }
+    requires { ⌜ (length (now widths) ≡ widthWords) × ((s .levels ≤ widthWords) × ((j ≤ 4_294_967_295) × (lineSize * (j + 1) ≤ length (now lines)))) ⌝ }
     requires { ⌜ (b ≤ 4_294_967_295) × (p ≤ 1_048_576) ⌝ }
     ensures { λ r. ⌜ r ≡ stopsAt (now (lines .entry)) j b kept p (stateOf s (now (widths .entry))) ⌝ }
 {
     if p <= kept {
         return false;
     }
-    if lines[21 * j] as usize != old_byte(b, kept, p) {
+    if lines[records::LINE * j] as usize != old_byte(b, kept, p) {
         return false;
     }
-    same_state(lines, j, s, widths)
+    records::same_state(lines, j, s, widths)
 }
 
 // What reading on gives: a stop after so many lines, tokens and bytes, at an old line; the end after so many lines and tokens, in a
 // state; the first failure; or the line of a level too many.
 pub enum Reread {
     Stops(usize, usize, usize, usize),
-    Ends(usize, usize, line::State),
+    Ends(usize, usize, records::State),
     Fails(lines::FailureRecord),
     TooDeep(usize),
 }
@@ -143,7 +109,7 @@ pub fn read_on(
     i: usize,
     first: usize,
     widths: &mut [u32],
-    start: line::State,
+    start: records::State,
 ) -> Reread
     requires { ⌜ now class ≡ classTable ⌝ }
     requires { ⌜ now reach ≡ reachTable ⌝ }
@@ -151,13 +117,13 @@ pub fn read_on(
     requires { ⌜ now signs ≡ signTable ⌝ }
     requires { ⌜ now keywords ≡ keywordTable ⌝ }
     requires { ⌜ (base + length (now text) ≤ 1_048_576) × ((i ≤ base) × ((from ≤ m) × (b ≤ 4_294_967_295))) ⌝ }
-    requires { ⌜ (m ≤ 4_294_967_295) × (21 * (m + 1) ≤ length (now old)) ⌝ }
-    requires { ⌜ (start .depth ≤ base) × ((start .levels ≤ 16) × (length (now widths) ≡ 16)) ⌝ }
+    requires { ⌜ (m ≤ 4_294_967_295) × (lineSize * (m + 1) ≤ length (now old)) ⌝ }
+    requires { ⌜ (start .depth ≤ base) × ((start .levels ≤ widthWords) × (length (now widths) ≡ widthWords)) ⌝ }
     requires { ⌜ MayPut write (readFrom 16 (stateOf start (now widths)) (linesOf (now text))) (base + length (now text)) kept i first (length (now lines)) (length (now tokens)) ⌝ }
     ensures { λ r. ⌜ RereadIs (now (text .entry)) (now (old .entry)) base i m from b kept (stateOf start (now (widths .entry))) r ⌝ }
     ensures { λ r. ⌜ EndsIn (readFrom 16 (stateOf start (now (widths .entry))) (linesOf (now (text .entry)))) (now (widths .exit)) r ⌝ }
-    ensures { λ _. ⌜ now (lines .exit) ≡ putIf write (now (lines .entry)) (21 * i) (lineRecords base first (linesRead (readFrom 16 (stateOf start (now (widths .entry))) (linesOf (now (text .entry)))))) ⌝ }
-    ensures { λ _. ⌜ now (tokens .exit) ≡ putIf write (now (tokens .entry)) (5 * first) (tokenRecords base (i + 1) (linesRead (readFrom 16 (stateOf start (now (widths .entry))) (linesOf (now (text .entry)))))) ⌝ }
+    ensures { λ _. ⌜ now (lines .exit) ≡ putIf write (now (lines .entry)) (lineSize * i) (lineRecords base first (linesRead (readFrom 16 (stateOf start (now (widths .entry))) (linesOf (now (text .entry)))))) ⌝ }
+    ensures { λ _. ⌜ now (tokens .exit) ≡ putIf write (now (tokens .entry)) (tokenSize * first) (tokenRecords base (i + 1) (linesRead (readFrom 16 (stateOf start (now (widths .entry))) (linesOf (now (text .entry)))))) ⌝ }
 {
     let mut q: usize = 0;
     let mut c: usize = 0;
@@ -218,22 +184,22 @@ pub fn rewrite_lines(
     i: usize,
     first: usize,
     widths: &mut [u32],
-    start: line::State,
-) -> line::State
+    start: records::State,
+) -> records::State
     requires { ⌜ now class ≡ classTable ⌝ }
     requires { ⌜ now reach ≡ reachTable ⌝ }
     requires { ⌜ now index ≡ signIndexTable ⌝ }
     requires { ⌜ now signs ≡ signTable ⌝ }
     requires { ⌜ now keywords ≡ keywordTable ⌝ }
     requires { ⌜ (base + length (now text) ≤ 1_048_576) × (i ≤ base) ⌝ }
-    requires { ⌜ (start .depth ≤ base) × ((start .levels ≤ 16) × (length (now widths) ≡ 16)) ⌝ }
+    requires { ⌜ (start .depth ≤ base) × ((start .levels ≤ widthWords) × (length (now widths) ≡ widthWords)) ⌝ }
     requires { ⌜ FewFrom (readFrom 16 (stateOf start (now widths)) (linesOf (now text))) first ⌝ }
     requires { ⌜ RoomFrom (readFrom 16 (stateOf start (now widths)) (linesOf (now text))) i first (length (now lines)) (length (now tokens)) ⌝ }
-    ensures { λ r. ⌜ Reaches (readFrom 16 (stateOf start (now (widths .entry))) (linesOf (now (text .entry)))) (stateOf r (now (widths .exit))) × (r .levels ≤ 16) ⌝ }
-    ensures { λ _. ⌜ now (lines .exit) ≡ sets (now (lines .entry)) (21 * i) (lineRecords base first (linesRead (readFrom 16 (stateOf start (now (widths .entry))) (linesOf (now (text .entry)))))) ⌝ }
-    ensures { λ _. ⌜ now (tokens .exit) ≡ sets (now (tokens .entry)) (5 * first) (tokenRecords base (i + 1) (linesRead (readFrom 16 (stateOf start (now (widths .entry))) (linesOf (now (text .entry)))))) ⌝ }
+    ensures { λ r. ⌜ Reaches (readFrom 16 (stateOf start (now (widths .entry))) (linesOf (now (text .entry)))) (stateOf r (now (widths .exit))) × (r .levels ≤ widthWords) ⌝ }
+    ensures { λ _. ⌜ now (lines .exit) ≡ sets (now (lines .entry)) (lineSize * i) (lineRecords base first (linesRead (readFrom 16 (stateOf start (now (widths .entry))) (linesOf (now (text .entry)))))) ⌝ }
+    ensures { λ _. ⌜ now (tokens .exit) ≡ sets (now (tokens .entry)) (tokenSize * first) (tokenRecords base (i + 1) (linesRead (readFrom 16 (stateOf start (now (widths .entry))) (linesOf (now (text .entry)))))) ⌝ }
 {
-    let none: [u32; 21] = [0; 21];
+    let none: [u32; records::LINE] = [0; records::LINE];
     match read_on(
         class,
         reach,

@@ -1,4 +1,5 @@
 pub mod ListLaws
+pub mod BeginsLaws
 pub mod BufferLaws
 pub mod Utf8Laws
 pub mod Utf8Table

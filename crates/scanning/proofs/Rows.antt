@@ -76,7 +76,7 @@ rows-split (suc i) j ws =
     ∙ ap (λ (v : List ℕ). tokenRow ws ++ tokenRows i (drop tokenSize ws) ++ tokenRows j v) (drop-drop (tokenSize * i) tokenSize ws ∙ ap (λ (n : ℕ). drop n ws) d)
 
 -- words after those of the k tokens do not matter
-pub rows-front : (k : ℕ) (ws vs : List ℕ) → length ws ≡ 5 * k → tokenRows k (ws ++ vs) ≡ tokenRows k ws
+pub rows-front : (k : ℕ) (ws vs : List ℕ) → length ws ≡ tokenSize * k → tokenRows k (ws ++ vs) ≡ tokenRows k ws
 unfolding tokenRows tokenRow
 rows-front zero ws vs h = refl
 rows-front (suc k) (a ∷ b ∷ c ∷ d ∷ e ∷ ws) vs h = ap (λ (r : List ℕ). tokenRow (a ∷ b ∷ c ∷ d ∷ e ∷ []) ++ r) (rows-front k ws vs (omega arith))
@@ -90,10 +90,10 @@ rows-front (suc k) (a ∷ b ∷ c ∷ d ∷ []) vs h = absurd (omega arith)
 module _ (ws : List ℕ) where
   -- the words from token i on, as they are lent
   abbrev pub wordsFrom : ℕ → List ℕ
-  wordsFrom i = take (length ws - 5 * i) (drop (5 * i) ws)
+  wordsFrom i = take (length ws - tokenSize * i) (drop (tokenSize * i) ws)
 
-  words-from : (i : ℕ) → wordsFrom i ≡ drop (5 * i) ws
-  words-from i = take-all (length ws - 5 * i) (drop (5 * i) ws) (omega (arith, length-drop (5 * i) ws))
+  words-from : (i : ℕ) → wordsFrom i ≡ drop (tokenSize * i) ws
+  words-from i = take-all (length ws - tokenSize * i) (drop (tokenSize * i) ws) (omega (arith, length-drop (tokenSize * i) ws))
 
   pub rows-start : {out : List ℕ} {at : ℕ} → Put true out at (tokenRows 0 ws ∷ []) out at
   unfolding tokenRows concat
@@ -105,17 +105,17 @@ module _ (ws : List ℕ) where
       ap (λ (v : List ℕ). tokenRows i ws ++ (tokenRow v ++ [])) (words-from i)
       ∙ sym (append-nil (tokenRows (i + 1) ws) ∙ rows-split i 1 ws)
 
-  rows-parts : (k i : ℕ) → i < k → concat (tokenRows k ws ∷ []) ≡ concat (tokenRows i ws ∷ tokenRow (wordsFrom i) ∷ tokenRows (k - suc i) (drop 5 (drop (5 * i) ws)) ∷ [])
+  rows-parts : (k i : ℕ) → i < k → concat (tokenRows k ws ∷ []) ≡ concat (tokenRows i ws ∷ tokenRow (wordsFrom i) ∷ tokenRows (k - suc i) (drop 5 (drop (tokenSize * i) ws)) ∷ [])
   unfolding tokenRows concat
   rows-parts k i h =
       let e : k ≡ i + suc (k - suc i) = omega arith in
       append-nil (tokenRows k ws) ∙ ap (λ (n : ℕ). tokenRows n ws) e ∙ rows-split i (suc (k - suc i)) ws
-      ∙ ap (λ (r : List ℕ). tokenRows i ws ++ (tokenRow (drop (5 * i) ws) ++ r)) (sym (append-nil (tokenRows (k - suc i) (drop 5 (drop (5 * i) ws)))))
-      ∙ ap (λ (v : List ℕ). tokenRows i ws ++ (tokenRow v ++ (tokenRows (k - suc i) (drop 5 (drop (5 * i) ws)) ++ []))) (sym (words-from i))
+      ∙ ap (λ (r : List ℕ). tokenRows i ws ++ (tokenRow (drop (tokenSize * i) ws) ++ r)) (sym (append-nil (tokenRows (k - suc i) (drop 5 (drop (tokenSize * i) ws)))))
+      ∙ ap (λ (v : List ℕ). tokenRows i ws ++ (tokenRow v ++ (tokenRows (k - suc i) (drop 5 (drop (tokenSize * i) ws)) ++ []))) (sym (words-from i))
 
-  pub rows-room : {out₀ : List ℕ} {at : ℕ} {out : List ℕ} {next : ℕ} (k i : ℕ) → i < k → 5 * k ≤ length ws → Room true out₀ at (tokenRows k ws ∷ [])
+  pub rows-room : {out₀ : List ℕ} {at : ℕ} {out : List ℕ} {next : ℕ} (k i : ℕ) → i < k → tokenSize * k ≤ length ws → Room true out₀ at (tokenRows k ws ∷ [])
       → Put true out₀ at (tokenRows i ws ∷ []) out next → (5 ≤ length (wordsFrom i)) × Room true out next (tokenRow (wordsFrom i) ∷ [])
-  rows-room k i h l r p = (omega (arith, length-drop (5 * i) ws, ap length (words-from i)), room-first (room-next (room-as (rows-parts k i h) r) p))
+  rows-room k i h l r p = (omega (arith, length-drop (tokenSize * i) ws, ap length (words-from i)), room-first (room-next (room-as (rows-parts k i h) r) p))
 
   pub rows-more : {out₀ : List ℕ} {at : ℕ} {out : List ℕ} {next : ℕ} {after : List ℕ} {end : ℕ} (i : ℕ) → Put true out₀ at (tokenRows i ws ∷ []) out next
       → Put true out next (tokenRow (wordsFrom i) ∷ []) after end → Put true out₀ at (tokenRows (i + 1) ws ∷ []) after end

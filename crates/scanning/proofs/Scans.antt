@@ -15,7 +15,7 @@ use Rattle.rules.specs.Failure.{failureRecord}
 use Rattle.rules.specs.Line.{initial, failed, overLimit}
 use Rattle.rules.specs.Reading.{linesOf, Reading, reads, halts, readFrom, byteSum}
 use Rattle.rules.specs.Replies.{barge, tooLong, malformed, lexical, atLine, firstOf, unless, refusedIf, numbered, numberedUnread, failureWords, tooLongBy, isMalformed, malformedBy}
-use Rattle.rules.specs.Records.{Header, header, lineNeed, tokenNeed, Records, recordTests, FreshReading, recorded, unread, haltRefusal, recordedBy, readLines, freshReading}
+use Rattle.rules.specs.Records.{tokenSize, Header, header, lineNeed, tokenNeed, Records, recordTests, FreshReading, recorded, unread, haltRefusal, recordedBy, readLines, freshReading}
 use Rattle.rules.specs.Read.{Filled, filled, filledBy, readInto}
 use Rattle.rules.specs.Scan.{scanBytes, pageRow, tokenRows, refusedRow, printed, scanOutput}
 use Rattle.rules.proofs.Utf8Laws.{prefix-le, whole-iff}
@@ -74,7 +74,7 @@ module _ (t L T : List ℕ) (small : length t ≤ 512) (hl : 10_773 ≤ length L
     pub bytes : r .head .n ≤ 512
     pub rows : r .head .m ≤ 512
     pub marks : r .head .k ≤ 1_024
-    pub words : length (r .tokens) ≡ 5 * r .head .k
+    pub words : length (r .tokens) ≡ tokenSize * r .head .k
     pub small-words : AllLe wordMax (r .tokens)
     pub fills : filledBy L T (recorded r) ≡ filled L T r
 
@@ -160,7 +160,7 @@ module _ (t L T : List ℕ) (small : length t ≤ 512) (hl : 10_773 ≤ length L
     rows-are : tokenRows k T′ ≡ tokenRows k (page .records .tokens)
     unfolding overwrite
     rows-are =
-        let w : length (page .records .tokens) ≡ 5 * k = omega (arith, page .held-is .words, ap (λ (x : Header). x .k) (page .head-is)) in
+        let w : length (page .records .tokens) ≡ tokenSize * k = omega (arith, page .held-is .words, ap (λ (x : Header). x .k) (page .head-is)) in
         ap (tokenRows k) (page .tokens-are) ∙ rows-front k (page .records .tokens) (drop (length (page .records .tokens)) T) w
 
     page-is : concat (pageRow (header n m k) ∷ tokenRows k T′ ∷ []) ≡ scanOutput t
@@ -170,7 +170,7 @@ module _ (t L T : List ℕ) (small : length t ≤ 512) (hl : 10_773 ≤ length L
         ∙ ap (λ (x : Header). pageRow x ++ tokenRows (x .k) (page .records .tokens)) (sym (page .head-is))
         ∙ by-reading (recorded (page .records)) (page .reading-is)
 
-    pub page-room : {out : List ℕ} → 65_536 ≤ length out → ((n ≤ 512) × (m ≤ 512) × (k ≤ 1_024) × (5 * k ≤ length T′)) × Room true out 0 (pageRow (header n m k) ∷ tokenRows k T′ ∷ [])
+    pub page-room : {out : List ℕ} → 65_536 ≤ length out → ((n ≤ 512) × (m ≤ 512) × (k ≤ 1_024) × (tokenSize * k ≤ length T′)) × Room true out 0 (pageRow (header n m k) ∷ tokenRows k T′ ∷ [])
     unfolding overwrite
     page-room {out} room =
         let z = page .held-is in

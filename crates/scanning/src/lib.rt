@@ -5,7 +5,7 @@ ghost use mathlib.Core.List.{[], _∷_};
 ghost use Prim.Native.Nat.{_*_, _≤_, _<_};
 ghost use lib.ListN.{length};
 ghost use Rattle.rules.specs.Lists.{ascii, overwrite};
-ghost use Rattle.rules.specs.Records.{header};
+ghost use Rattle.rules.specs.Records.{tokenSize, header};
 ghost use Rattle.rules.specs.Report.{decimal};
 ghost use Rattle.rules.specs.Scan.{pageRow, tokenRow, tokenRows, refusedRow, scanOutput};
 ghost use Rattle.message.specs.Messages.{Room, Put};
@@ -35,13 +35,13 @@ fn put_row(out: &mut [u8], at: usize, words: &[u32]) -> usize
 
 // The rows of k tokens.
 fn put_rows(out: &mut [u8], at: usize, tokens: &[u32], k: usize) -> usize
-    requires { ⌜ (5 * k ≤ length (now tokens)) × Room true (now out) at (tokenRows k (now tokens) ∷ []) ⌝ }
+    requires { ⌜ (tokenSize * k ≤ length (now tokens)) × Room true (now out) at (tokenRows k (now tokens) ∷ []) ⌝ }
     ensures { λ r. ⌜ Put true (now (out .entry)) at (tokenRows k (now (tokens .entry)) ∷ []) (now (out .exit)) r ⌝ }
 {
     let mut next = at;
     let mut i: usize = 0;
     while i < k {
-        let from = 5 * i;
+        let from = records::TOKEN * i;
         next = put_row(out, next, &tokens[from..]);
         i += 1;
     }
@@ -61,7 +61,7 @@ fn put_head(out: &mut [u8], n: u32, m: u32, k: u32) -> usize
 
 // The rows of a text that reads: its page and its tokens.
 fn put_page(out: &mut [u8], tokens: &[u32], n: usize, m: usize, k: usize) -> usize
-    requires { ⌜ (n ≤ 512) × (m ≤ 512) × (k ≤ 1_024) × (5 * k ≤ length (now tokens)) ⌝ }
+    requires { ⌜ (n ≤ 512) × (m ≤ 512) × (k ≤ 1_024) × (tokenSize * k ≤ length (now tokens)) ⌝ }
     requires { ⌜ Room true (now out) 0 (pageRow (header n m k) ∷ tokenRows k (now tokens) ∷ []) ⌝ }
     ensures { λ r. ⌜ Put true (now (out .entry)) 0 (pageRow (header n m k) ∷ tokenRows k (now (tokens .entry)) ∷ []) (now (out .exit)) r ⌝ }
 {

@@ -10,6 +10,7 @@ use lib.ListN.{length, getD, take, drop}
 use lib.Seq.{drop-cons}
 use borrow.Author.Tests.{lt-ltb, le-ltb}
 use Rattle.rules.specs.Walk.{isWalked, walkReply}
+use Rattle.rules.specs.Records.{tokenSize}
 use Rattle.tokens.specs.Answers.{recordNumbers, stepNumbers}
 use Rattle.tokens.specs.declared.Step.{Step}
 use Rattle.tokens.specs.declared.Step.the-variants.{Record}
@@ -25,13 +26,13 @@ five-words ts k h =
     rw (word k (k + 1) (omega arith) (omega arith), word (k + 1) (k + 2) (omega arith) (omega arith), word (k + 2) (k + 3) (omega arith) (omega arith), word (k + 3) (k + 4) (omega arith) (omega arith), word (k + 4) (k + 5) (omega arith) (omega arith))
 
 module _ (ts : List ℕ) (i : ℕ) where
-  pub done : length ts < 5 * i + 5 → (0 ∷ 0 ∷ i ∷ []) ≡ walkReply ts i
+  pub done : length ts < tokenSize * i + 5 → (0 ∷ 0 ∷ i ∷ []) ≡ walkReply ts i
   unfolding walkReply isWalked
-  done h = rw (lt-ltb (length ts) (5 * i + 5) h)
+  done h = rw (lt-ltb (length ts) (tokenSize * i + 5) h)
 
-  pub goes-on : 5 * i + 5 ≤ length ts → (0 ∷ 1 ∷ (i + 1) ∷ wordsAt ts (5 * i)) ≡ walkReply ts i
+  pub goes-on : tokenSize * i + 5 ≤ length ts → (0 ∷ 1 ∷ (i + 1) ∷ wordsAt ts (tokenSize * i)) ≡ walkReply ts i
   unfolding walkReply isWalked
-  goes-on h = rw (le-ltb (length ts) (5 * i + 5) h, five-words ts (5 * i) h, add-one i)
+  goes-on h = rw (le-ltb (length ts) (tokenSize * i + 5) h, five-words ts (tokenSize * i) h, add-one i)
 
   -- a step that gives a record goes one further
   pub one-further : (r : Step) → stepNumbers r ≡ walkReply ts i → (after : ℕ) (t : TokenRecord) → r ≡ Record after t → after ≡ suc i
@@ -46,5 +47,5 @@ module _ (ts : List ℕ) (i : ℕ) where
           let h : (0 ∷ 1 ∷ after ∷ recordNumbers t) ≡ (0 ∷ 0 ∷ i ∷ []) = told ∙ rw w in
           absurd (omega (arith, ap length h))
       go false w =
-          let h : (0 ∷ 1 ∷ after ∷ recordNumbers t) ≡ (0 ∷ 1 ∷ suc i ∷ take 5 (drop (5 * i) ts)) = told ∙ rw w in
+          let h : (0 ∷ 1 ∷ after ∷ recordNumbers t) ≡ (0 ∷ 1 ∷ suc i ∷ take 5 (drop (tokenSize * i) ts)) = told ∙ rw w in
           cc

@@ -13,6 +13,7 @@ use Rattle.rules.specs.Kinds.{isKind}
 use Rattle.rules.specs.Replies.{Refusal, short, outside, unfit, namesBuffer, refusedIf, firstOf}
 use Rattle.rules.specs.Page.{Page, fits}
 use Rattle.rules.specs.TokenText.{namesSize, tokenWord, isUnfit, partTests}
+use Rattle.rules.specs.Records.{tokenSize}
 use Rattle.rules.proofs.PageLaws.{fits-true}
 
 or-false : (x y : Bool) → (x || y) ≡ false → y ≡ false
@@ -20,12 +21,12 @@ or-false true y e = let z : _≡_ {A = Bool} true false = e in cc
 or-false false y e = e
 
 module _ (pg : Page) (i : ℕ) where
-  pub first-word : getD (pg .tokens) (5 * i) 0 ≡ tokenWord pg i 0
+  pub first-word : getD (pg .tokens) (tokenSize * i) 0 ≡ tokenWord pg i 0
   unfolding tokenWord
   first-word = rw add-zero
 
   -- the record's test on its words
-  pub unfit-by : (b x : Bool) → b ≡ (not (isKind (getD (pg .tokens) (5 * i) 0)) || ltb (pg .head .n) (tokenWord pg i 1 + tokenWord pg i 2)) → b ≡ x → isUnfit pg i ≡ x
+  pub unfit-by : (b x : Bool) → b ≡ (not (isKind (getD (pg .tokens) (tokenSize * i) 0)) || ltb (pg .head .n) (tokenWord pg i 1 + tokenWord pg i 2)) → b ≡ x → isUnfit pg i ≡ x
   unfolding isUnfit
   unfit-by b x e h = sym (e ∙ rw first-word) ∙ h
 
@@ -44,7 +45,7 @@ module _ (pg : Page) (i names : ℕ) where
 
     module _ (h : i < pg .head .k) where
       -- the words of the token are there
-      pub in-tokens : 5 * i + 5 ≤ length (pg .tokens)
+      pub in-tokens : tokenSize * i + 5 ≤ length (pg .tokens)
       in-tokens = omega (arith, fits-true pg f .tokens)
 
       pub no-token : isUnfit pg i ≡ true → Comes (some unfit)

@@ -78,7 +78,7 @@ fn ask(
     if k as usize <= i {
         return Asked::Outside;
     }
-    let at = 5 * i;
+    let at = records::TOKEN * i;
     let kind = tokens[at];
     let position = tokens[at + 1] as usize;
     let size = tokens[at + 2] as usize;
@@ -208,10 +208,10 @@ pub enum Step {
 pub fn walk_step(tokens: &[u32], next: usize) -> Step
     ensures { λ r. ⌜ stepNumbers r ≡ walkReply (now (tokens .entry)) next ⌝ }
 {
-    if tokens.len() / 5 <= next {
+    if tokens.len() / records::TOKEN <= next {
         return Step::Done(next);
     }
-    let at = 5 * next;
+    let at = records::TOKEN * next;
     let record = TokenRecord {
         kind: tokens[at],
         position: tokens[at + 1],

@@ -9,14 +9,14 @@ use lib.Dec.{ltb}
 use lib.ListN.{length}
 use borrow.Author.Tests.{ltb-false}
 use Rattle.rules.specs.Replies.{tooLong, malformed, lexical, atLine, barge, isTooLong, linesBuffer, tokensBuffer, firstOf, unless, refusedIf, numbered, numberedUnread, failureWords}
-use Rattle.rules.specs.Records.{lineNeed, tokenNeed, Records, recordTests, FreshReading, recorded, unread, freshReading}
+use Rattle.rules.specs.Records.{tokenSize, lineNeed, tokenNeed, Records, recordTests, FreshReading, recorded, unread, freshReading}
 use Rattle.rules.specs.Read.{filledBy, readInto}
 use Rattle.rules.proofs.PageLaws.{fresh-inverse}
 use Rattle.rules.proofs.BoundLaws.{fresh-small}
 
 module _ (t L T : List ℕ) (n m k : ℕ) where
   abbrev Fits : Type 0
-  Fits = (n ≤ 4_294_967_295) × ((m ≤ 4_294_967_295) × ((k ≤ 4_294_967_295) × (5 * k ≤ length T)))
+  Fits = (n ≤ 4_294_967_295) × ((m ≤ 4_294_967_295) × ((k ≤ 4_294_967_295) × (tokenSize * k ≤ length T)))
 
   abbrev answer : List ℕ
   answer = 0 ∷ n ∷ m ∷ k ∷ []

@@ -3,6 +3,7 @@
 ghost use mathlib.Core.Path.{_≡_};
 ghost use Prim.Native.Nat.{_*_, _≤_};
 ghost use lib.ListN.{length};
+ghost use Rattle.rules.specs.Records.{tokenSize};
 
 // A number and a space.
 fn print_number(n: u32) {
@@ -79,7 +80,7 @@ fn print_refusals<'a>(
 
 // A token of no bytes is granted, and the one after it is refused.
 fn print_empty(names: &[u8]) {
-    let lines: [u32; 21] = [0; 21];
+    let lines: [u32; records::LINE] = [0; records::LINE];
     let words: [u32; 5] = [45, 0, 0, 1, 1];
     print_text(0, 0, 1, b"", &lines, &words, 0, names);
     print_text(0, 0, 1, b"", &lines, &words, 1, names);
@@ -87,7 +88,7 @@ fn print_empty(names: &[u8]) {
 
 // What is printed for a text that reads.
 fn print_page(n: usize, m: usize, k: usize, text: &[u8], lines: &[u32], words: &[u32])
-    requires { ⌜ (n ≤ 4_294_967_295) × ((m ≤ 4_294_967_295) × ((k ≤ 4_294_967_295) × (5 * k ≤ length (now words)))) ⌝ }
+    requires { ⌜ (n ≤ 4_294_967_295) × ((m ≤ 4_294_967_295) × ((k ≤ 4_294_967_295) × (tokenSize * k ≤ length (now words)))) ⌝ }
 {
     let names = b"<INDENT><DEDENT>\\n";
     let front = &words[..5 * k];

@@ -10,17 +10,17 @@ use lib.Seq.{sets, length-take-le, take-nil}
 use Rattle.rules.specs.Line.{State, tokenAt, dedents}
 use Rattle.rules.specs.Reading.{Line, isLF, onto, linesOf, Reading, reads, halts, linesRead, tokenSum}
 use Rattle.rules.specs.Replies.{maxLevels}
-use Rattle.rules.specs.Records.{lineRecord, lineRecords, tokenWords, tokenRecords, endEntry, withEnd}
+use Rattle.rules.specs.Records.{widthWords, lineSize, tokenSize, lineRecord, lineRecords, tokenWords, tokenRecords, endEntry, withEnd}
 use Rattle.rules.proofs.LineLaws.{total, next, total-append, total-lines}
 use Rattle.rules.proofs.ReadingLaws.{read-sizes, tokenSum-append}
 use Rattle.rules.proofs.RecordLaws.{length-lineRecords, length-tokenRecords}
 use Rattle.laws.specs.Puts.{putIf}
 use Rattle.laws.proofs.Sets.{sets-before}
-use Rattle.line.specs.States.{stateOf}
-use Rattle.line.specs.declared.State as line-state
+use Rattle.records.specs.States.{stateOf}
+use Rattle.records.specs.declared.State as line-state
 use Rattle.rereading.specs.Rewrites.{RoomFrom, FewFrom, Reaches}
 use Rattle.rereading.proofs.Rewrites.{more-lines, more-tokens}
-use Rattle.planning.specs.Starts.{stateFrom}
+use Rattle.records.specs.Words.{stateFrom}
 use Rattle.planning.specs.Plans.{newLines, plannedLines, ReadsAs, Planned, Roomy}
 use Rattle.planning.specs.declared.Plan.{Plan}
 use Rattle.writing.specs.Writes.{written}
@@ -41,8 +41,8 @@ pub record Bounds (m k : ℕ) (p : Plan) : Type 0 where
 
 -- the code's state and widths, after the lines read again
 pub record Reached (R : Reading) (s : line-state.State) (ws : List ℕ) : Type 0 where
-  pub few : s .levels ≤ 16
-  pub wide : length ws ≡ 16
+  pub few : s .levels ≤ widthWords
+  pub wide : length ws ≡ widthWords
   pub is : Reaches R (stateOf s ws)
 
 -- The first lines of a text are the lines of its first bytes.
@@ -138,11 +138,11 @@ module _ {u lines : List ℕ} {m k : ℕ} {p : Plan} (pl : Planned u lines m k p
 
   -- and for the end, where the plan ends there
   pub room-end : (linesLen tokensLen : ℕ) → Roomy m k linesLen tokensLen p → (z : State) → Reaches R z → (levels : ℕ) → length (z .widths) ≡ levels → p .ends ≡ true
-      → (21 * (p .i + p .count) + 21 ≤ linesLen) × (5 * (p .first + p .read + levels) ≤ tokensLen)
+      → (lineSize * (p .i + p .count) + lineSize ≤ linesLen) × (tokenSize * (p .first + p .read + levels) ≤ tokensLen)
   unfolding tokenSum
   room-end linesLen tokensLen r z h levels hl en = go R refl (pl .reads-as) h
     where
-      go : (x : Reading) → R ≡ x → ReadsAs p x → Reaches x z → (21 * (p .i + p .count) + 21 ≤ linesLen) × (5 * (p .first + p .read + levels) ≤ tokensLen)
+      go : (x : Reading) → R ≡ x → ReadsAs p x → Reaches x z → (lineSize * (p .i + p .count) + lineSize ≤ linesLen) × (tokenSize * (p .first + p .read + levels) ≤ tokensLen)
       go (halts es y) e x q = absurd x
       go (reads es y) e x q =
           let l : p .lines ≡ length (withEnd es y) = x .3 ∙ ap (λ (b : Bool). length (newLines b (reads es y))) en in
@@ -153,33 +153,33 @@ module _ {u lines : List ℕ} {m k : ℕ} {p : Plan} (pl : Planned u lines m k p
 
   -- The line words: the moved tail stands, then what was read, then the end.
   module _ (l₁ l₂ l₃ : List ℕ) (z : State) (hz : Reaches R z) where
-    pub lines-put : l₂ ≡ sets l₁ (21 * p .i) (lineRecords (p .base) (p .first) (linesRead R))
-        → l₃ ≡ putIf (p .ends) l₂ (21 * (p .i + p .count)) (lineRecord (p .new) (p .first + p .read) z)
-        → l₃ ≡ sets l₁ (21 * p .i) (lineRecords (p .base) (p .first) (written u lines p))
+    pub lines-put : l₂ ≡ sets l₁ (lineSize * p .i) (lineRecords (p .base) (p .first) (linesRead R))
+        → l₃ ≡ putIf (p .ends) l₂ (lineSize * (p .i + p .count)) (lineRecord (p .new) (p .first + p .read) z)
+        → l₃ ≡ sets l₁ (lineSize * p .i) (lineRecords (p .base) (p .first) (written u lines p))
     unfolding linesRead
     lines-put e2 e3 = go R (pl .reads-as) hz e2 (p .ends) refl e3
       where
-        go : (x : Reading) → ReadsAs p x → Reaches x z → l₂ ≡ sets l₁ (21 * p .i) (lineRecords (p .base) (p .first) (linesRead x)) → (b : Bool) → p .ends ≡ b
-            → l₃ ≡ putIf b l₂ (21 * (p .i + p .count)) (lineRecord (p .new) (p .first + p .read) z) → l₃ ≡ sets l₁ (21 * p .i) (lineRecords (p .base) (p .first) (newLines b x))
+        go : (x : Reading) → ReadsAs p x → Reaches x z → l₂ ≡ sets l₁ (lineSize * p .i) (lineRecords (p .base) (p .first) (linesRead x)) → (b : Bool) → p .ends ≡ b
+            → l₃ ≡ putIf b l₂ (lineSize * (p .i + p .count)) (lineRecord (p .new) (p .first + p .read) z) → l₃ ≡ sets l₁ (lineSize * p .i) (lineRecords (p .base) (p .first) (newLines b x))
         go (halts es y) x q f b eb g = absurd x
         go (reads es y) x q f false eb g = g ∙ f
         go (reads es y) x q f true eb g =
             more-lines true (p .base) (p .i) (p .first) es (endEntry y) (p .count) (p .new) (p .first + p .read) (x .0) (x .2) (ap (λ (n : ℕ). p .first + n) (x .1)) l₁ l₂ l₃ f
-            (g ∙ ap (λ (s : State). sets l₂ (21 * (p .i + p .count)) (lineRecord (p .new) (p .first + p .read) s)) q)
+            (g ∙ ap (λ (s : State). sets l₂ (lineSize * (p .i + p .count)) (lineRecord (p .new) (p .first + p .read) s)) q)
 
-    pub tokens-put : (levels : ℕ) → length (z .widths) ≡ levels → l₂ ≡ sets l₁ (5 * p .first) (tokenRecords (p .base) (p .i + 1) (linesRead R))
-        → l₃ ≡ putIf (p .ends) l₂ (5 * (p .first + p .read)) (tokenWords (p .new) (p .i + p .count + 1) (dedents levels))
-        → l₃ ≡ sets l₁ (5 * p .first) (tokenRecords (p .base) (p .i + 1) (written u lines p))
+    pub tokens-put : (levels : ℕ) → length (z .widths) ≡ levels → l₂ ≡ sets l₁ (tokenSize * p .first) (tokenRecords (p .base) (p .i + 1) (linesRead R))
+        → l₃ ≡ putIf (p .ends) l₂ (tokenSize * (p .first + p .read)) (tokenWords (p .new) (p .i + p .count + 1) (dedents levels))
+        → l₃ ≡ sets l₁ (tokenSize * p .first) (tokenRecords (p .base) (p .i + 1) (written u lines p))
     unfolding linesRead
     tokens-put levels hl e2 e3 = go R (pl .reads-as) hz e2 (p .ends) refl e3
       where
-        go : (x : Reading) → ReadsAs p x → Reaches x z → l₂ ≡ sets l₁ (5 * p .first) (tokenRecords (p .base) (p .i + 1) (linesRead x)) → (b : Bool) → p .ends ≡ b
-            → l₃ ≡ putIf b l₂ (5 * (p .first + p .read)) (tokenWords (p .new) (p .i + p .count + 1) (dedents levels)) → l₃ ≡ sets l₁ (5 * p .first) (tokenRecords (p .base) (p .i + 1) (newLines b x))
+        go : (x : Reading) → ReadsAs p x → Reaches x z → l₂ ≡ sets l₁ (tokenSize * p .first) (tokenRecords (p .base) (p .i + 1) (linesRead x)) → (b : Bool) → p .ends ≡ b
+            → l₃ ≡ putIf b l₂ (tokenSize * (p .first + p .read)) (tokenWords (p .new) (p .i + p .count + 1) (dedents levels)) → l₃ ≡ sets l₁ (tokenSize * p .first) (tokenRecords (p .base) (p .i + 1) (newLines b x))
         go (halts es y) x q f b eb g = absurd x
         go (reads es y) x q f false eb g = g ∙ f
         go (reads es y) x q f true eb g =
             more-tokens true (p .base) (p .i) (p .first) es (endEntry y) (p .count) (p .new) (p .first + p .read) (x .0) (x .2) (ap (λ (n : ℕ). p .first + n) (x .1)) l₁ l₂ l₃ f
-            (g ∙ ap (λ (n : ℕ). sets l₂ (5 * (p .first + p .read)) (tokenWords (p .new) (p .i + p .count + 1) (dedents n))) (sym hl ∙ ap (λ (s : State). length (s .widths)) q))
+            (g ∙ ap (λ (n : ℕ). sets l₂ (tokenSize * (p .first + p .read)) (tokenWords (p .new) (p .i + p .count + 1) (dedents n))) (sym hl ∙ ap (λ (s : State). length (s .widths)) q))
 
   -- how many records that is
   pub written-sizes : (p .lines ≡ length (written u lines p)) × (p .tokens ≡ tokenSum (written u lines p))
@@ -190,19 +190,19 @@ module _ {u lines : List ℕ} {m k : ℕ} {p : Plan} (pl : Planned u lines m k p
       go (reads es y) x = (x .3, x .4)
 
   -- written before the moved tail
-  pub lines-joined : (l l₁ l₃ moved : List ℕ) → l₁ ≡ sets l (21 * (p .i + p .lines)) moved → l₃ ≡ sets l₁ (21 * p .i) (lineRecords (p .base) (p .first) (written u lines p))
-      → l₃ ≡ sets l (21 * p .i) (lineRecords (p .base) (p .first) (written u lines p) ++ moved)
+  pub lines-joined : (l l₁ l₃ moved : List ℕ) → l₁ ≡ sets l (lineSize * (p .i + p .lines)) moved → l₃ ≡ sets l₁ (lineSize * p .i) (lineRecords (p .base) (p .first) (written u lines p))
+      → l₃ ≡ sets l (lineSize * p .i) (lineRecords (p .base) (p .first) (written u lines p) ++ moved)
   lines-joined l l₁ l₃ moved e f =
       let new : List ℕ = lineRecords (p .base) (p .first) (written u lines p) in
-      let at : 21 * (p .i + p .lines) ≡ 21 * p .i + length new = omega (arith, length-lineRecords (p .base) (p .first) (written u lines p), written-sizes .0) in
-      f ∙ ap (λ (x : List ℕ). sets x (21 * p .i) new) (e ∙ ap (λ (n : ℕ). sets l n moved) at) ∙ sets-before new moved l (21 * p .i)
+      let at : lineSize * (p .i + p .lines) ≡ lineSize * p .i + length new = omega (arith, length-lineRecords (p .base) (p .first) (written u lines p), written-sizes .0) in
+      f ∙ ap (λ (x : List ℕ). sets x (lineSize * p .i) new) (e ∙ ap (λ (n : ℕ). sets l n moved) at) ∙ sets-before new moved l (lineSize * p .i)
 
-  pub tokens-joined : (l l₁ l₃ moved : List ℕ) → l₁ ≡ sets l (5 * (p .first + p .tokens)) moved → l₃ ≡ sets l₁ (5 * p .first) (tokenRecords (p .base) (p .i + 1) (written u lines p))
-      → l₃ ≡ sets l (5 * p .first) (tokenRecords (p .base) (p .i + 1) (written u lines p) ++ moved)
+  pub tokens-joined : (l l₁ l₃ moved : List ℕ) → l₁ ≡ sets l (tokenSize * (p .first + p .tokens)) moved → l₃ ≡ sets l₁ (tokenSize * p .first) (tokenRecords (p .base) (p .i + 1) (written u lines p))
+      → l₃ ≡ sets l (tokenSize * p .first) (tokenRecords (p .base) (p .i + 1) (written u lines p) ++ moved)
   tokens-joined l l₁ l₃ moved e f =
       let new : List ℕ = tokenRecords (p .base) (p .i + 1) (written u lines p) in
-      let at : 5 * (p .first + p .tokens) ≡ 5 * p .first + length new = omega (arith, length-tokenRecords (p .base) (p .i + 1) (written u lines p), written-sizes .1) in
-      f ∙ ap (λ (x : List ℕ). sets x (5 * p .first) new) (e ∙ ap (λ (n : ℕ). sets l n moved) at) ∙ sets-before new moved l (5 * p .first)
+      let at : tokenSize * (p .first + p .tokens) ≡ tokenSize * p .first + length new = omega (arith, length-tokenRecords (p .base) (p .i + 1) (written u lines p), written-sizes .1) in
+      f ∙ ap (λ (x : List ℕ). sets x (tokenSize * p .first) new) (e ∙ ap (λ (n : ℕ). sets l n moved) at) ∙ sets-before new moved l (tokenSize * p .first)
 
   -- room as the code has it, after the moves
   pub room-moved : {x : Reading} {nl nt ll tl : ℕ} → x ≡ R → nl ≡ ll → nt ≡ tl → Roomy m k ll tl p → RoomFrom x (p .i) (p .first) nl nt
@@ -214,23 +214,23 @@ module _ {u lines : List ℕ} {m k : ℕ} {p : Plan} (pl : Planned u lines m k p
     levels-are = length-take-le (s .levels) ws (omega arith)
 
     pub end-room : {nl nt ll tl : ℕ} → nl ≡ ll → nt ≡ tl → Roomy m k ll tl p → p .ends ≡ true
-        → (21 * (p .i + p .count) + 21 ≤ nl) × (5 * (p .first + p .read + s .levels) ≤ nt)
+        → (lineSize * (p .i + p .count) + lineSize ≤ nl) × (tokenSize * (p .first + p .read + s .levels) ≤ nt)
     end-room {ll = ll} {tl = tl} el et r en =
         let x = room-end ll tl r (stateOf s ws) (h .is) (s .levels) levels-are en in
         (omega (arith, x .0), omega (arith, x .1))
 
     -- all the writes of the line words and of the token words
-    pub lines-written : {x : Reading} {l₁ l₂ l₃ : List ℕ} (l moved : List ℕ) → x ≡ R → l₁ ≡ sets l (21 * (p .i + p .lines)) moved
-        → l₂ ≡ sets l₁ (21 * p .i) (lineRecords (p .base) (p .first) (linesRead x))
-        → l₃ ≡ putIf (p .ends) l₂ (21 * (p .i + p .count)) (lineRecord (p .new) (p .first + p .read) (stateOf s ws))
-        → l₃ ≡ sets l (21 * p .i) (lineRecords (p .base) (p .first) (written u lines p) ++ moved)
+    pub lines-written : {x : Reading} {l₁ l₂ l₃ : List ℕ} (l moved : List ℕ) → x ≡ R → l₁ ≡ sets l (lineSize * (p .i + p .lines)) moved
+        → l₂ ≡ sets l₁ (lineSize * p .i) (lineRecords (p .base) (p .first) (linesRead x))
+        → l₃ ≡ putIf (p .ends) l₂ (lineSize * (p .i + p .count)) (lineRecord (p .new) (p .first + p .read) (stateOf s ws))
+        → l₃ ≡ sets l (lineSize * p .i) (lineRecords (p .base) (p .first) (written u lines p) ++ moved)
     lines-written {l₁ = l₁} {l₂ = l₂} {l₃ = l₃} l moved e e1 e2 e3 =
-        lines-joined l l₁ l₃ moved e1 (lines-put l₁ l₂ l₃ (stateOf s ws) (h .is) (e2 ∙ ap (λ (r : Reading). sets l₁ (21 * p .i) (lineRecords (p .base) (p .first) (linesRead r))) e) e3)
+        lines-joined l l₁ l₃ moved e1 (lines-put l₁ l₂ l₃ (stateOf s ws) (h .is) (e2 ∙ ap (λ (r : Reading). sets l₁ (lineSize * p .i) (lineRecords (p .base) (p .first) (linesRead r))) e) e3)
 
-    pub tokens-written : {x : Reading} {l₁ l₂ l₃ : List ℕ} (l moved : List ℕ) → x ≡ R → l₁ ≡ sets l (5 * (p .first + p .tokens)) moved
-        → l₂ ≡ sets l₁ (5 * p .first) (tokenRecords (p .base) (p .i + 1) (linesRead x))
-        → l₃ ≡ putIf (p .ends) l₂ (5 * (p .first + p .read)) (tokenWords (p .new) (p .i + p .count + 1) (dedents (s .levels)))
-        → l₃ ≡ sets l (5 * p .first) (tokenRecords (p .base) (p .i + 1) (written u lines p) ++ moved)
+    pub tokens-written : {x : Reading} {l₁ l₂ l₃ : List ℕ} (l moved : List ℕ) → x ≡ R → l₁ ≡ sets l (tokenSize * (p .first + p .tokens)) moved
+        → l₂ ≡ sets l₁ (tokenSize * p .first) (tokenRecords (p .base) (p .i + 1) (linesRead x))
+        → l₃ ≡ putIf (p .ends) l₂ (tokenSize * (p .first + p .read)) (tokenWords (p .new) (p .i + p .count + 1) (dedents (s .levels)))
+        → l₃ ≡ sets l (tokenSize * p .first) (tokenRecords (p .base) (p .i + 1) (written u lines p) ++ moved)
     tokens-written {l₁ = l₁} {l₂ = l₂} {l₃ = l₃} l moved e e1 e2 e3 =
         tokens-joined l l₁ l₃ moved e1
-        (tokens-put l₁ l₂ l₃ (stateOf s ws) (h .is) (s .levels) levels-are (e2 ∙ ap (λ (r : Reading). sets l₁ (5 * p .first) (tokenRecords (p .base) (p .i + 1) (linesRead r))) e) e3)
+        (tokens-put l₁ l₂ l₃ (stateOf s ws) (h .is) (s .levels) levels-are (e2 ∙ ap (λ (r : Reading). sets l₁ (tokenSize * p .first) (tokenRecords (p .base) (p .i + 1) (linesRead r))) e) e3)

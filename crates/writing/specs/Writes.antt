@@ -4,7 +4,7 @@ use Prim.Native.Nat.{ℕ, _+_, _-_, _*_}
 use mathlib.Core.List.{List, _++_}
 use lib.ListN.{length, take}
 use Rattle.rules.specs.Reading.{Entry}
-use Rattle.rules.specs.Records.{lineRecords, tokenRecords}
+use Rattle.rules.specs.Records.{lineSize, tokenSize, lineRecords, tokenRecords}
 use Rattle.moving.specs.Moved.{movedLines, movedTokens}
 use Rattle.planning.specs.declared.Plan.{Plan}
 use Rattle.planning.specs.Plans.{newLines, plannedLines}
@@ -27,7 +27,7 @@ tokenTail u lines tokens k p =
 
 -- all the words, those before the first written one included
 abbrev pub writtenLines : (u lines : List ℕ) (m : ℕ) → Plan → List ℕ
-writtenLines u lines m p = take (21 * p .i) lines ++ lineTail u lines m p
+writtenLines u lines m p = take (lineSize * p .i) lines ++ lineTail u lines m p
 
 abbrev pub writtenTokens : (u lines tokens : List ℕ) (k : ℕ) → Plan → List ℕ
-writtenTokens u lines tokens k p = take (5 * p .first) tokens ++ tokenTail u lines tokens k p
+writtenTokens u lines tokens k p = take (tokenSize * p .first) tokens ++ tokenTail u lines tokens k p

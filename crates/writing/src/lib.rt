@@ -6,22 +6,28 @@ ghost use lib.ListN.{length};
 ghost use lib.Seq.{sets};
 ghost use Rattle.laws.specs.Puts.{putIf};
 ghost use Rattle.rules.specs.Line.{dedents};
-ghost use Rattle.rules.specs.Records.{lineRecord, tokenWords};
-ghost use Rattle.line.specs.States.{stateOf};
+ghost use Rattle.rules.specs.Records.{widthWords, lineSize, tokenSize, lineRecord, tokenWords};
+ghost use Rattle.records.specs.States.{stateOf};
 ghost use Rattle.planning.specs.Plans.{Planned, Roomy};
 ghost use Rattle.writing.specs.Writes.{lineTail, tokenTail};
 
 // The end's record and its Dedents, where the plan ends there.
-fn put_end(lines: &mut [u32], tokens: &mut [u32], p: planning::Plan, s: line::State, widths: &[u32])
-    requires { ⌜ (length (now widths) ≡ 16) × (s .levels ≤ 16) ⌝ }
+fn put_end(
+    lines: &mut [u32],
+    tokens: &mut [u32],
+    p: planning::Plan,
+    s: records::State,
+    widths: &[u32],
+)
+    requires { ⌜ (length (now widths) ≡ widthWords) × (s .levels ≤ widthWords) ⌝ }
     requires { ⌜ (p .i ≤ 1_048_576) × ((p .count ≤ 1_048_577) × ((p .new ≤ 1_048_576) × (p .first + p .read ≤ 2_097_152))) ⌝ }
-    requires { ⌜ (p .ends ≡ true → (21 * (p .i + p .count) + 21 ≤ length (now lines)) × (5 * (p .first + p .read + s .levels) ≤ length (now tokens))) ⌝ }
-    ensures { λ _. ⌜ now (lines .exit) ≡ putIf (p .ends) (now (lines .entry)) (21 * (p .i + p .count)) (lineRecord (p .new) (p .first + p .read) (stateOf s (now (widths .entry)))) ⌝ }
-    ensures { λ _. ⌜ now (tokens .exit) ≡ putIf (p .ends) (now (tokens .entry)) (5 * (p .first + p .read)) (tokenWords (p .new) (p .i + p .count + 1) (dedents (s .levels))) ⌝ }
+    requires { ⌜ (p .ends ≡ true → (lineSize * (p .i + p .count) + lineSize ≤ length (now lines)) × (tokenSize * (p .first + p .read + s .levels) ≤ length (now tokens))) ⌝ }
+    ensures { λ _. ⌜ now (lines .exit) ≡ putIf (p .ends) (now (lines .entry)) (lineSize * (p .i + p .count)) (lineRecord (p .new) (p .first + p .read) (stateOf s (now (widths .entry)))) ⌝ }
+    ensures { λ _. ⌜ now (tokens .exit) ≡ putIf (p .ends) (now (tokens .entry)) (tokenSize * (p .first + p .read)) (tokenWords (p .new) (p .i + p .count + 1) (dedents (s .levels))) ⌝ }
 {
     let line = p.i + p.count;
     let token = p.first + p.read;
-    lines::put_line(lines, p.ends, line, p.new as u32, token as u32, s, widths);
+    records::put_line(lines, p.ends, line, p.new as u32, token as u32, s, widths);
     line::put_dedents(
         tokens,
         p.ends,
@@ -41,14 +47,14 @@ pub fn write_records(
     k: usize,
     p: planning::Plan,
 )
-    requires { ⌜ (length (now edited) ≤ 1_048_576) × ((21 * (m + 1) ≤ length (now lines)) × (5 * k ≤ length (now tokens))) ⌝ }
+    requires { ⌜ (length (now edited) ≤ 1_048_576) × ((lineSize * (m + 1) ≤ length (now lines)) × (tokenSize * k ≤ length (now tokens))) ⌝ }
     requires { ⌜ Planned (now edited) (now lines) m k p ⌝ }
     requires { ⌜ Roomy m k (length (now lines)) (length (now tokens)) p ⌝ }
-    ensures { λ _. ⌜ now (lines .exit) ≡ sets (now (lines .entry)) (21 * p .i) (lineTail (now (edited .entry)) (now (lines .entry)) m p) ⌝ }
-    ensures { λ _. ⌜ now (tokens .exit) ≡ sets (now (tokens .entry)) (5 * p .first) (tokenTail (now (edited .entry)) (now (lines .entry)) (now (tokens .entry)) k p) ⌝ }
+    ensures { λ _. ⌜ now (lines .exit) ≡ sets (now (lines .entry)) (lineSize * p .i) (lineTail (now (edited .entry)) (now (lines .entry)) m p) ⌝ }
+    ensures { λ _. ⌜ now (tokens .exit) ≡ sets (now (tokens .entry)) (tokenSize * p .first) (tokenTail (now (edited .entry)) (now (lines .entry)) (now (tokens .entry)) k p) ⌝ }
 {
-    let mut widths: [u32; 16] = [0; 16];
-    let s = planning::load_state(lines, p.i, &mut widths);
+    let mut widths: [u32; records::LEVELS] = [0; records::LEVELS];
+    let s = records::load_state(lines, p.i, &mut widths);
     moving::move_tokens(
         tokens,
         p.from,

@@ -6,8 +6,10 @@ use mathlib.Core.List.{List}
 use native.Mathlib.Omega.{arith}
 use lib.ListN.{take}
 use Rattle.rules.specs.Failure.{failure, badIndent}
+use Rattle.rules.specs.Records.{widthWords}
 use Rattle.rules.specs.Line.{State, levels, failed, overLimit, indentSize, cutsFrom, levelsOf}
-use Rattle.line.specs.States.{stateOf, leading, Within}
+use Rattle.records.specs.States.{stateOf}
+use Rattle.line.specs.States.{leading, Within}
 use Rattle.line.specs.LineCuts.{lineCutsOf}
 use Rattle.line.specs.declared.Lead.{Lead}
 use Rattle.line.proofs.Whole.{read-unequal, read-deep, levels-known}
@@ -39,7 +41,7 @@ module _ (k : tie.After-known-told) where
   levels-are : levelsOf 16 (state (start compared)) (line (start compared)) ≡ levels (leading lead) (take (lead .levels) (compared .levels-of .last .1 .1 .1 .0))
   levels-are = levels-known (state (start compared)) (line (start compared)) _ lead _ (compared .levels-of .ensures .0) (k .before .lead .given .1)
 
-  within : (lead .levels ≤ 16) × (lead .closes ≤ 16)
+  within : (lead .levels ≤ widthWords) × (lead .closes ≤ widthWords)
   within = subst Within (k .before .lead .given .1) (compared .levels-of .ensures .1 .0)
 
 leading-spaces-requires : tie.Need-leading-spaces-requires

@@ -10,7 +10,7 @@ use borrow.Author.Tests.{not-true, not-false}
 use lib.ListN.{length, take, drop, length-drop}
 use Rattle.rules.specs.Reading.{notLF, lineAt, sizeAt}
 use Rattle.rules.proofs.ListLaws.{run-le}
-use Rattle.line.specs.declared.State.{State}
+use Rattle.records.specs.declared.State.{State}
 use Rattle.lines.proofs.Lines.{small, size-inside, line-inside, next-start, slice-is}
 use Rattle.checking.specs.declared.SameLine.the-variants.{Agrees}
 use Rattle.checking.proofs.Lines.{AgreesTo, agrees-start, other-record, other-line, next-line, other-count, other-total, end-is}
@@ -82,7 +82,7 @@ module _ (n : tie.After-line-agrees Inv-loop μ-loop) where
   next : (i : ℕ) (s : State) → n .line-agrees .result ≡ Agrees i s → (q : ℕ) → q ≡ at-line .loop .p + sizeAt (text at-line) (at-line .loop .p)
       → Agreed at-line widths-now q (at-line .loop .m + 1) (at-line .loop .k + i) s
   next i s r =
-      next-line (so-far at-line) (more ended) _ (line-is ended) _ _ (n .line-agrees .ensures .0) (sym (not-false _ (ended .before .if1 .left)) ∙ ended .before .before .same-line-record .ensures) i s r (n .line-agrees .ensures .1) (kept-wide ∙ so-far at-line .pass .wide)
+      next-line (so-far at-line) (more ended) _ (line-is ended) _ _ (n .line-agrees .ensures .0) (sym (not-false _ (ended .before .if1 .left)) ∙ ended .before .before .same-line .ensures) i s r (n .line-agrees .ensures .1) (kept-wide ∙ so-far at-line .pass .wide)
 
 abbrev agreed-at : tie.After-known-told Inv-loop μ-loop → tie.After-line-agrees Inv-loop μ-loop
 agreed-at c = c .before .before .before .before .before
@@ -96,14 +96,14 @@ loop-holds c =
     let q = s .pre .1 .1 .1 .1 .1 in
     agrees-start (s .args .text .now) (s .args .lines .now) (s .args .tokens .now) (s .args .count) (s .args .total) (q .1 .0) (q .1 .1) (s .args .widths .now) (q .0 .1)
 
-cast-same-line-record : tie.Need-cast-same-line-record Inv-loop μ-loop
-cast-same-line-record c = omega (arith, far (c .before))
+cast-same-line : tie.Need-cast-same-line Inv-loop μ-loop
+cast-same-line c = omega (arith, far (c .before))
 
-cast-same-line-record-2 : tie.Need-cast-same-line-record-2 Inv-loop μ-loop
-cast-same-line-record-2 c = omega (arith, far (c .before))
+cast-same-line-2 : tie.Need-cast-same-line-2 Inv-loop μ-loop
+cast-same-line-2 c = omega (arith, far (c .before))
 
-same-line-record-requires : tie.Need-same-line-record-requires Inv-loop μ-loop
-same-line-record-requires c κs =
+same-line-requires : tie.Need-same-line-requires Inv-loop μ-loop
+same-line-requires c κs =
     let l = c .before .before in
     (so-far l .pass .wide, (so-far l .pass .few, omega (arith, far l)))
 
@@ -111,7 +111,7 @@ same-length : tie.Need-same-length Inv-loop μ-loop
 same-length c = same-widths (c .before .before .before .before)
 
 returns : tie.Need-returns Inv-loop μ-loop
-returns c = other-record (so-far (c .before .before .before .before)) (sym (not-true _ (c .if1 .taken)) ∙ c .before .same-line-record .ensures)
+returns c = other-record (so-far (c .before .before .before .before)) (sym (not-true _ (c .if1 .taken)) ∙ c .before .same-line .ensures)
 
 line-end-requires : tie.Need-line-end-requires Inv-loop μ-loop
 line-end-requires c κs = so-far (c .before .before .before .before) .pass .inside
@@ -226,9 +226,9 @@ lines-agree-spec =
     Inv-loop
     μ-loop
     loop-holds
-    cast-same-line-record
-    cast-same-line-record-2
-    same-line-record-requires
+    cast-same-line
+    cast-same-line-2
+    same-line-requires
     same-length
     returns
     line-end-requires

@@ -6,7 +6,7 @@ use mathlib.Core.List.{List}
 use lib.ListN.{drop}
 use Rattle.rules.specs.Lists.{begins}
 use Rattle.rules.specs.Line.{Token}
-use Rattle.rules.specs.Records.{tokenWords}
+use Rattle.rules.specs.Records.{tokenSize, tokenWords}
 use Rattle.line.proofs.Whole.{lead-opens, lead-closes, indent-words}
 use borrow.Author.Needs.{needs}
 use Rattle.checking.proofs.same_leading.Statement.{statement}
@@ -18,7 +18,7 @@ same-token-requires c κs = search needs
 returns : tie.Need-returns
 returns c =
     let a = c .before .before .before .args in
-    let l = drop (5 * a .k) (a .tokens .now) in
+    let l = drop (tokenSize * a .k) (a .tokens .now) in
     let e = ap (tokenWords (a .position) (a .number)) (lead-opens (a .lead) (c .before .if1 .taken)) ∙ indent-words (a .position) (a .number) in
     c .same-token .ensures ∙ ap (λ x. begins x l) (sym e)
 
@@ -28,7 +28,7 @@ same-dedents-requires c κs = search needs
 returns-2 : tie.Need-returns-2
 returns-2 c =
     let a = c .before .before .before .args in
-    let l = drop (5 * a .k) (a .tokens .now) in
+    let l = drop (tokenSize * a .k) (a .tokens .now) in
     c .same-dedents .ensures ∙ ap (λ (ts : List Token). begins (tokenWords (a .position) (a .number) ts) l) (sym (lead-closes (a .lead) (c .before .if1 .left)))
 
 pub same-leading-spec : {M : Type 1} → statement M

@@ -6,7 +6,7 @@ use native.Mathlib.Omega.{arith}
 use native.Mathlib.Nat.{add-zero}
 use lib.ListN.{length, drop, length-drop}
 use Rattle.rules.specs.Lists.{begins}
-use Rattle.cut.proofs.Fronts.{begins-more, begins-other, begins-all, begins-short}
+use Rattle.rules.proofs.BeginsLaws.{begins-more, begins-other, begins-all, begins-short}
 use Rattle.cut.proofs.begins_at.Statement.{statement}
 use Rattle.cut.proofs.begins_at.Tie as tie
 

@@ -13,6 +13,7 @@ use Rattle.rules.specs.Failure.{Failure}
 use Rattle.rules.specs.Lists.{ascii, begins}
 use Rattle.rules.specs.Tables.{letterClass, classOf}
 use Rattle.rules.specs.Cut.{token, fails, cut}
+use Rattle.rules.specs.Records.{tokenSize}
 use Rattle.rules.specs.Line.{movedBy, cutsFrom}
 use Rattle.spelling.specs.Bytes.{reaches}
 use Rattle.spelling.proofs.ReachLaws.{run-inside}
@@ -61,12 +62,12 @@ module _ (l : tie.Then1 Inv-loop μ-loop) where
 
   -- A token at the cursor: there is room to pass it, and the cursor goes on.
   module _ {kind size : ℕ} (x : TokenAt (place .write) line (t .at) kind size) where
-    room : place .write ≡ true → 5 * (place .first + t .n) + 5 ≤ length (l .before .before .loop .tokens)
+    room : place .write ≡ true → tokenSize * (place .first + t .n) + tokenSize ≤ length (l .before .before .loop .tokens)
     room w =
         let r = all-room (cutsFrom 0 0 line) (place .first) (length (called .args .tokens .now)) (called .pre .1 .1 .1 .1 .1 .1 .1 w) in
         omega (arith, r .2, room-for so-far more x (r .0) (r .1), same-tokens so-far)
 
-    may-pass : ((place .position + (t .at + size) ≤ 1_048_576) × ((place .first + t .n ≤ 8_388_608) × (t .«open» ≤ 8_388_608))) × (place .write ≡ true → 5 * (place .first + t .n) + 5 ≤ length (l .before .before .loop .tokens))
+    may-pass : ((place .position + (t .at + size) ≤ 1_048_576) × ((place .first + t .n ≤ 8_388_608) × (t .«open» ≤ 8_388_608))) × (place .write ≡ true → tokenSize * (place .first + t .n) + tokenSize ≤ length (l .before .before .loop .tokens))
     may-pass = ((omega (arith, far .0, x .in-line), (omega (arith, far .1), omega (arith, far .2))), room)
 
     goes-on : (t′ : Cursor) → t′ ≡ tokenPast t kind size → length line - t′ .at < length line - t .at

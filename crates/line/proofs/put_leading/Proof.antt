@@ -6,7 +6,7 @@ use mathlib.Core.List.{List}
 use native.Mathlib.Omega.{arith}
 use lib.ListN.{length, length-replicate}
 use Rattle.rules.specs.Line.{Token, tokenAt}
-use Rattle.rules.specs.Records.{tokenWords}
+use Rattle.rules.specs.Records.{tokenSize, tokenWords}
 use Rattle.laws.specs.Puts.{putIf}
 use Rattle.line.proofs.Whole.{lead-opens, lead-closes, indent-words}
 use borrow.Author.Needs.{needs}
@@ -28,8 +28,8 @@ returns c =
     let e = lead-opens (a .lead) (c .before .before .before .before .if1 .taken) in (
       ap length (sym e),
       c .before .before .put-token .ensures
-          ∙ ap (putIf (a .write) (a .tokens .now) (5 * a .k)) (sym (indent-words (a .position) (a .number)))
-          ∙ ap (λ (ts : List Token). putIf (a .write) (a .tokens .now) (5 * a .k) (tokenWords (a .position) (a .number) ts)) (sym e),
+          ∙ ap (putIf (a .write) (a .tokens .now) (tokenSize * a .k)) (sym (indent-words (a .position) (a .number)))
+          ∙ ap (λ (ts : List Token). putIf (a .write) (a .tokens .now) (tokenSize * a .k) (tokenWords (a .position) (a .number) ts)) (sym e),
     )
 
 put-dedents-requires : tie.Need-put-dedents-requires
@@ -47,7 +47,7 @@ returns-2 c =
     let e = lead-closes (a .lead) (c .before .before .before .before .if1 .left) in (
       sym (ap length e ∙ length-replicate (a .lead .closes) (tokenAt 91 0 0)),
       c .before .before .put-dedents .ensures
-          ∙ ap (λ (ts : List Token). putIf (a .write) (a .tokens .now) (5 * a .k) (tokenWords (a .position) (a .number) ts)) (sym e),
+          ∙ ap (λ (ts : List Token). putIf (a .write) (a .tokens .now) (tokenSize * a .k) (tokenWords (a .position) (a .number) ts)) (sym e),
     )
 
 pub put-leading-spec : {M : Type 1} → statement M

@@ -8,10 +8,11 @@ use borrow.Author.Needs.{needs}
 use lib.ListN.{length, take}
 use Rattle.rules.specs.Failure.{failure, badIndent}
 use Rattle.rules.specs.Line.{State, Token, Levels, levels, LineReply, lineHalts, Halt, failed, cutsFrom, levelsOf, readLine}
-use Rattle.rules.specs.Records.{tokenWords}
+use Rattle.rules.specs.Records.{widthWords, tokenSize, tokenWords}
 use Rattle.laws.specs.Puts.{putIf}
 use Rattle.laws.proofs.Puts.{putIf-none}
-use Rattle.line.specs.States.{stateOf, leading, Within}
+use Rattle.records.specs.States.{stateOf}
+use Rattle.line.specs.States.{leading, Within}
 use Rattle.line.specs.LineCuts.{lineCutsOf, tokensIn, counted, countedHalts}
 use Rattle.line.specs.declared.Lead.{Lead}
 use Rattle.line.proofs.Whole.{read-unequal, read-deep, levels-known, line-counted, line-tokens, line-room, levels-within}
@@ -28,9 +29,9 @@ module _ (s : tie.Start) where
 
   -- a line that does not read writes no tokens
   no-tokens : (h : Halt) → readLine 16 state line ≡ lineHalts h
-      → s .args .tokens .now ≡ putIf (s .args .write) (s .args .tokens .now) (5 * s .args .k) (tokenWords (s .args .position) (s .args .number) (tokensIn (readLine 16 state line)))
+      → s .args .tokens .now ≡ putIf (s .args .write) (s .args .tokens .now) (tokenSize * s .args .k) (tokenWords (s .args .position) (s .args .number) (tokensIn (readLine 16 state line)))
   unfolding tokenWords
-  no-tokens h e = rw e (sym (putIf-none (s .args .write) (s .args .tokens .now) (5 * s .args .k)))
+  no-tokens h e = rw e (sym (putIf-none (s .args .write) (s .args .tokens .now) (tokenSize * s .args .k)))
 
 abbrev called : tie.After-leading-spaces → tie.Start
 called c = c .before .before .before .before
@@ -54,7 +55,7 @@ module _ (k : tie.After-known-told) where
   levels-are : levelsOf 16 (state (start compared)) (line (start compared)) ≡ levels (leading lead) (take (lead .levels) (compared .levels-of .last .1 .1 .1 .0))
   levels-are = levels-known (state (start compared)) (line (start compared)) _ lead _ (compared .levels-of .ensures .0) (k .before .lead .given .1)
 
-  within : (lead .levels ≤ 16) × (lead .closes ≤ 16)
+  within : (lead .levels ≤ widthWords) × (lead .closes ≤ widthWords)
   within = subst Within (k .before .lead .given .1) (compared .levels-of .ensures .1 .0)
 
 levels-of-requires : tie.Need-levels-of-requires
@@ -119,7 +120,7 @@ returns c =
         levels-within (lead k) (lineCutsOf (a .s .depth) (cutsFrom 0 0 (line s))) _ (x .cut-after .ensures .0) (within k .0),
         (
           compared k .levels-of .ensures .1 .1,
-          x .cut-after .ensures .1 ∙ ap (λ (ts : List Token). putIf (a .write) (a .tokens .now) (5 * a .k) (tokenWords (a .position) (a .number) ts)) (line-tokens (state s) (line s) (lead k) _ (levels-are k)),
+          x .cut-after .ensures .1 ∙ ap (λ (ts : List Token). putIf (a .write) (a .tokens .now) (tokenSize * a .k) (tokenWords (a .position) (a .number) ts)) (line-tokens (state s) (line s) (lead k) _ (levels-are k)),
         ),
       ),
     )

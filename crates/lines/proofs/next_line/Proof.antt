@@ -9,12 +9,12 @@ use Rattle.rules.specs.Lists.{run}
 use Rattle.rules.specs.Line as rules-line
 use Rattle.rules.specs.Line.{LineReply, lineHalts, failed, readLine}
 use Rattle.rules.specs.Reading.{notLF, lineAt}
-use Rattle.rules.specs.Records.{lineRecord, tokenWords}
+use Rattle.rules.specs.Records.{lineSize, tokenSize, lineRecord, tokenWords}
 use Rattle.rules.proofs.ListLaws.{run-le}
 use Rattle.rules.proofs.FailureLaws.{failure-inside}
 use Rattle.laws.specs.Puts.{putIf}
 use Rattle.cut.specs.Cuts.{failureOf}
-use Rattle.line.specs.States.{stateOf}
+use Rattle.records.specs.States.{stateOf}
 use Rattle.line.specs.LineCuts.{tokensIn, RoomIn, LevelsWithin}
 use Rattle.lines.proofs.Lines.{line-read, line-fails, line-deep, next-start, slice-is}
 use borrow.Author.Needs.{needs}
@@ -75,11 +75,11 @@ module _ (r : tie.After-read-line) where
   reply-is = ap (readLine 16 (z here)) (sym (line-is ended))
 
   written : let a = here .args in
-      (ended .before .before .before .put-line .last .0 ≡ putIf (a .write) (a .lines .now) (21 * a .m) (lineRecord (a .base + a .at) (a .k) (z here)))
-      × (r .read-line .last .1 .1 .1 .1 .1 .1 .0 ≡ putIf (a .write) (a .tokens .now) (5 * a .k) (tokenWords (a .base + a .at) (a .m + 1) (tokensIn (readLine 16 (z here) (line-here here)))))
+      (ended .before .before .before .put-line .last .0 ≡ putIf (a .write) (a .lines .now) (lineSize * a .m) (lineRecord (a .base + a .at) (a .k) (z here)))
+      × (r .read-line .last .1 .1 .1 .1 .1 .1 .0 ≡ putIf (a .write) (a .tokens .now) (tokenSize * a .k) (tokenWords (a .base + a .at) (a .m + 1) (tokensIn (readLine 16 (z here) (line-here here)))))
   written =
       let a = here .args in
-      (ended .before .before .before .put-line .ensures, r .read-line .ensures .1 .1 .1 ∙ ap (λ (y : LineReply). putIf (a .write) (a .tokens .now) (5 * a .k) (tokenWords (a .base + a .at) (a .m + 1) (tokensIn y))) (sym reply-is))
+      (ended .before .before .before .put-line .ensures, r .read-line .ensures .1 .1 .1 ∙ ap (λ (y : LineReply). putIf (a .write) (a .tokens .now) (tokenSize * a .k) (tokenWords (a .base + a .at) (a .m + 1) (tokensIn y))) (sym reply-is))
 
 abbrev reads-at : tie.After-past-lf → tie.After-read-line
 reads-at c = c .before .before .before .before .before .before .before .before

@@ -7,16 +7,17 @@ use native.Mathlib.Omega.{arith}
 use lib.ListN.{length, set, replicate, length-replicate}
 use borrow.Author.Needs.{needs}
 use Rattle.rules.specs.Lists.{overwrite}
+use Rattle.rules.specs.Records.{lineSize}
 use Rattle.rules.proofs.BufferLaws.{length-overwrite, zero-more}
 use Rattle.page.proofs.FreshPages.{fresh-short, fresh-long, none-yet}
 use Rattle.page.proofs.fresh.Statement.{statement}
 use Rattle.page.proofs.fresh.Tie as tie
 
 abbrev Inv-loop : tie.InvT-loop
-Inv-loop lines₀ i₀ lines i = (i ≤ 21) × (lines ≡ overwrite (replicate i 0) lines₀)
+Inv-loop lines₀ i₀ lines i = (i ≤ lineSize) × (lines ≡ overwrite (replicate i 0) lines₀)
 
 abbrev μ-loop : tie.MeasureT-loop
-μ-loop lines₀ i₀ lines i = 21 - i
+μ-loop lines₀ i₀ lines i = lineSize - i
 
 returns : tie.Need-returns Inv-loop μ-loop
 returns c = fresh-short (c .before .args .lines .now) (c .if1 .taken)
@@ -52,7 +53,7 @@ same-length c =
 returns-2 : tie.Need-returns-2 Inv-loop μ-loop
 returns-2 c =
     let a = c .before .before .before .args .lines .now in
-    let e : c .before .loop .i ≡ 21 = omega (arith, c .before .loop .inv .0, c .loop-test .left) in
+    let e : c .before .loop .i ≡ lineSize = omega (arith, c .before .loop .inv .0, c .loop-test .left) in
     fresh-long a (c .before .before .if1 .left) _ (c .before .loop .inv .1 ∙ ap (λ (n : ℕ). overwrite (replicate n 0) a) e)
 
 pub fresh-spec : {M : Type 1} → statement M

@@ -9,10 +9,11 @@ use lib.Seq.{take-all}
 use Rattle.rules.specs.Line.{State}
 use Rattle.rules.specs.Page.{Page}
 use Rattle.rules.specs.StopRule.{Edit}
+use Rattle.rules.specs.Records.{lineSize}
 use Rattle.rules.proofs.PageLaws.{fits-true}
 use Rattle.rereading.specs.declared.Reread.{Reread}
 use Rattle.header.specs.Pages.{page}
-use Rattle.planning.specs.Starts.{lineWord}
+use Rattle.records.specs.Words.{lineWord}
 use Rattle.planning.specs.Plans.{editOf}
 use Rattle.planning.proofs.Begins.{Begun, begun}
 use Rattle.planning.proofs.Plans.{Editable, begins-within, inside-u, edited-holds, Gives, gives, stop-small, stop-plan, end-small, end-plan, fail-plan, deep-plan}
@@ -73,7 +74,7 @@ shared-slice-read-base : tie.Need-shared-slice-read-base
 shared-slice-read-base c = let b = c .before in omega (arith, b .if1 .left, editable (start b) .fits .lines)
 
 cast-base : tie.Need-cast-base
-cast-base c = omega (arith, c .shared-slice-known6 .given (21 * line-at (c .before) + 0))
+cast-base c = omega (arith, c .shared-slice-known6 .given (lineSize * line-at (c .before) + 0))
 
 add-reread-from : tie.Need-add-reread-from
 add-reread-from c = let s = start (c .before) in omega (arith, edited-holds (editable s), editable s .small)
@@ -134,7 +135,7 @@ returns-2 : tie.Need-returns-2
 returns-2 c =
     let x = c .before .before .before .before in
     let m = c .before .before .c in
-    let old = x .before .shared-slice-known6 .given (21 * m .given .0 .1 .1 .1 .0 + 0) in
+    let old = x .before .shared-slice-known6 .given (lineSize * m .given .0 .1 .1 .1 .0 + 0) in
     rw (c .plan-stop .ensures) (stop-plan (ok x) (begun-of x) (given x (m .given .1)) (omega (arith, old)))
 
 returns-3 : tie.Need-returns-3

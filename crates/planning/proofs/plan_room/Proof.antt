@@ -3,6 +3,7 @@
 use Prim.Native.Nat.{_*_}
 use mathlib.Core.Path.{_≡_, refl, sym, ap, _∙_}
 use borrow.Author.Tests.{lt-ltb, le-ltb}
+use Rattle.rules.specs.Records.{lineSize, tokenSize}
 use Rattle.planning.specs.Plans.{linesAfter, tokensAfter}
 use borrow.Author.Needs.{needs}
 use Rattle.planning.proofs.plan_room.Statement.{statement}
@@ -44,7 +45,7 @@ mul-t12 c = search needs
 returns-2 : tie.Need-returns-2
 returns-2 c =
     let a = c .before .before .before .before .before .before .args in
-    rw (le-ltb 2_097_152 (tokensAfter (a .p) (a .k)) (c .before .if1 .left), lt-ltb (a .lines) (21 * linesAfter (a .p) (a .m)) (c .if2 .taken)) refl
+    rw (le-ltb 2_097_152 (tokensAfter (a .p) (a .k)) (c .before .if1 .left), lt-ltb (a .lines) (lineSize * linesAfter (a .p) (a .m)) (c .if2 .taken)) refl
 
 mul-if3 : tie.Need-mul-if3
 mul-if3 c = search needs
@@ -55,12 +56,12 @@ mul-t13 c = search needs
 returns-3 : tie.Need-returns-3
 returns-3 c =
     let a = c .before .before .before .before .before .before .before .args in
-    rw (le-ltb 2_097_152 (tokensAfter (a .p) (a .k)) (c .before .before .if1 .left), le-ltb (a .lines) (21 * linesAfter (a .p) (a .m)) (c .before .if2 .left), lt-ltb (a .tokens) (5 * tokensAfter (a .p) (a .k)) (c .if3 .taken)) refl
+    rw (le-ltb 2_097_152 (tokensAfter (a .p) (a .k)) (c .before .before .if1 .left), le-ltb (a .lines) (lineSize * linesAfter (a .p) (a .m)) (c .before .if2 .left), lt-ltb (a .tokens) (tokenSize * tokensAfter (a .p) (a .k)) (c .if3 .taken)) refl
 
 returns-4 : tie.Need-returns-4
 returns-4 c =
     let a = c .before .before .before .before .before .before .before .args in
-    rw (le-ltb 2_097_152 (tokensAfter (a .p) (a .k)) (c .before .before .if1 .left), le-ltb (a .lines) (21 * linesAfter (a .p) (a .m)) (c .before .if2 .left), le-ltb (a .tokens) (5 * tokensAfter (a .p) (a .k)) (c .if3 .left)) refl
+    rw (le-ltb 2_097_152 (tokensAfter (a .p) (a .k)) (c .before .before .if1 .left), le-ltb (a .lines) (lineSize * linesAfter (a .p) (a .m)) (c .before .if2 .left), le-ltb (a .tokens) (tokenSize * tokensAfter (a .p) (a .k)) (c .if3 .left)) refl
 
 pub plan-room-spec : {M : Type 1} → statement M
 plan-room-spec =

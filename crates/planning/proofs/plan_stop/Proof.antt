@@ -4,7 +4,8 @@ use Prim.Native.Nat.{ℕ, _+_, _*_, _≤_, _<_}
 use mathlib.Core.Path.{_≡_, refl, sym, ap, _∙_}
 use native.Mathlib.Omega.{arith}
 use borrow.Author.Tests.{lt-ltb, le-ltb}
-use Rattle.planning.specs.Starts.{lineWord}
+use Rattle.rules.specs.Records.{lineSize}
+use Rattle.records.specs.Words.{lineWord}
 use borrow.Author.Needs.{needs}
 use Rattle.planning.proofs.plan_stop.Statement.{statement}
 use Rattle.planning.proofs.plan_stop.Tie as tie
@@ -22,7 +23,7 @@ shared-slice-read-from : tie.Need-shared-slice-read-from
 shared-slice-read-from c = search needs
 
 cast-from : tie.Need-cast-from
-cast-from c = omega (arith, c .shared-slice-known2 .given (21 * c .before .before .args .j + 1))
+cast-from c = omega (arith, c .shared-slice-known2 .given (lineSize * c .before .before .args .j + 1))
 
 returns : tie.Need-returns
 returns c =
@@ -57,7 +58,7 @@ shared-slice-read-t25 : tie.Need-shared-slice-read-t25
 shared-slice-read-t25 c = search needs
 
 cast-t26 : tie.Need-cast-t26
-cast-t26 c = omega (arith, c .before .before .before .before .shared-slice-known .given (21 * c .before .before .before .before .before .args .j + 0))
+cast-t26 c = omega (arith, c .before .before .before .before .shared-slice-known .given (lineSize * c .before .before .before .before .before .args .j + 0))
 
 add-t27 : tie.Need-add-t27
 add-t27 c = search needs

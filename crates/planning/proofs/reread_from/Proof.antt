@@ -10,7 +10,8 @@ use lib.ListN.{length, drop, length-drop, length-take}
 use lib.Seq.{take-all}
 use borrow.Author.Needs.{needs}
 use Rattle.rules.specs.Line.{State}
-use Rattle.planning.specs.Starts.{lineWord}
+use Rattle.rules.specs.Records.{lineSize}
+use Rattle.records.specs.Words.{lineWord}
 use Rattle.planning.proofs.reread_from.Statement.{statement}
 use Rattle.planning.proofs.reread_from.Tie as tie
 
@@ -58,7 +59,7 @@ shared-slice-read-base : tie.Need-shared-slice-read-base
 shared-slice-read-base c = let p = start (c .before .before) .pre .0 in omega (arith, p .1 .0, p .1 .1 .1)
 
 cast-base : tie.Need-cast-base
-cast-base c = omega (arith, c .shared-slice-known3 .given (21 * start (c .before .before) .args .i + 0))
+cast-base c = omega (arith, c .shared-slice-known3 .given (lineSize * start (c .before .before) .args .i + 0))
 
 sub-read-on : tie.Need-sub-read-on
 sub-read-on c = search needs

@@ -3,6 +3,7 @@
 use Prim.Native.Nat.{ℕ, _+_, _*_, _≤_, _<_}
 use mathlib.Core.Path.{_≡_, refl, sym, ap, _∙_}
 use native.Mathlib.Omega.{arith}
+use Rattle.rules.specs.Records.{lineSize}
 use Rattle.planning.proofs.Starts.{not-start, not-number, not-first, not-depth, only-levels}
 use borrow.Author.Needs.{needs}
 use Rattle.planning.proofs.usable.Statement.{statement}
@@ -21,7 +22,7 @@ shared-slice-read-start : tie.Need-shared-slice-read-start
 shared-slice-read-start c = search needs
 
 cast-start : tie.Need-cast-start
-cast-start c = omega (arith, c .shared-slice-known .given (21 * c .before .args .i + 0))
+cast-start c = omega (arith, c .shared-slice-known .given (lineSize * c .before .args .i + 0))
 
 returns : tie.Need-returns
 returns c =
@@ -43,7 +44,7 @@ shared-slice-read-if3 : tie.Need-shared-slice-read-if3
 shared-slice-read-if3 c = search needs
 
 cast-if3 : tie.Need-cast-if3
-cast-if3 c = omega (arith, c .shared-slice-known2 .given (21 * c .before .before .before .before .args .i + 1))
+cast-if3 c = omega (arith, c .shared-slice-known2 .given (lineSize * c .before .before .before .before .args .i + 1))
 
 returns-3 : tie.Need-returns-3
 returns-3 c =
@@ -60,7 +61,7 @@ shared-slice-read-if4 : tie.Need-shared-slice-read-if4
 shared-slice-read-if4 c = search needs
 
 cast-if4 : tie.Need-cast-if4
-cast-if4 c = omega (arith, c .shared-slice-known3 .given (21 * c .before .before .before .before .before .before .args .i + 2))
+cast-if4 c = omega (arith, c .shared-slice-known3 .given (lineSize * c .before .before .before .before .before .before .args .i + 2))
 
 returns-4 : tie.Need-returns-4
 returns-4 c =
@@ -75,6 +76,9 @@ mul-result c = search needs
 
 shared-slice-read-result : tie.Need-shared-slice-read-result
 shared-slice-read-result c = search needs
+
+cast-result : tie.Need-cast-result
+cast-result c = omega (arith, c .shared-slice-known4 .given (lineSize * c .before .before .before .before .before .before .before .before .args .i + 4))
 
 returns-5 : tie.Need-returns-5
 returns-5 c =
@@ -105,4 +109,5 @@ usable-spec =
     add-result
     mul-result
     shared-slice-read-result
+    cast-result
     returns-5)

@@ -9,7 +9,8 @@ use borrow.Author.Needs.{needs}
 use lib.ListN.{length, replicate}
 use Rattle.rules.specs.Line.{initial}
 use Rattle.rules.specs.Reading.{linesOf, readFrom}
-use Rattle.line.specs.declared.State.{State}
+use Rattle.rules.specs.Records.{widthWords, lineSize}
+use Rattle.records.specs.declared.State.{State}
 use Rattle.rereading.specs.declared.Reread.{Reread}
 use Rattle.rereading.specs.declared.Reread.the-variants.{Ends}
 use Rattle.rereading.specs.Rereads.{RereadIs}
@@ -44,17 +45,17 @@ module _ (r : tie.After-read-on) where
   abbrev widths-now : List ℕ
   widths-now = r .read-on .last .1 .1 .1 .1 .1 .1 .1 .1 .1 .1 .1 .1 .1 .1 .1 .1 .1 .0
 
-  wide : length widths-now ≡ 16
+  wide : length widths-now ≡ widthWords
   wide = r .read-on .kept .1 .1 .1 .1 .1 .1 .1 .1 .1 .1 .1 .1 .1 .1 .1 .1 .1 .0 ∙ start .pre .1 .1 .1 .1 .1 .0 .1
 
   abbrev Gave : Reread → Type 0
-  Gave = RereadIs (text start) (replicate 21 0) 0 0 0 0 0 (length (text start)) initial
+  Gave = RereadIs (text start) (replicate lineSize 0) 0 0 0 0 0 (length (text start)) initial
 
   gave : (y : Reread) → r .read-on .result ≡ y → Gave y
   gave y e = subst Gave e (r .read-on .ensures .0)
 
   ended : (m k : ℕ) (s : State) → r .read-on .result ≡ Ends m k s → EndOf (text start) widths-now m k s
-  ended m k s e = end-of (replicate 21 0) widths-now m k s (gave (Ends m k s) e) (subst (EndsIn (readFrom 16 initial (linesOf (text start))) widths-now) e (r .read-on .ensures .1 .0)) wide
+  ended m k s e = end-of (replicate lineSize 0) widths-now m k s (gave (Ends m k s) e) (subst (EndsIn (readFrom 16 initial (linesOf (text start))) widths-now) e (r .read-on .ensures .1 .0)) wide
 
 abbrev read-at : tie.After-known-told → tie.After-read-on
 read-at c = c .before .before .before .before .before .before .before .before .before

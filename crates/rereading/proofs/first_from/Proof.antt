@@ -5,7 +5,9 @@ use mathlib.Core.Path.{_≡_, refl}
 use native.Mathlib.Omega.{arith}
 use lib.ListN.{length}
 use borrow.Author.Needs.{needs}
-use Rattle.rereading.specs.Words.{startWord, FirstFrom}
+use Rattle.rules.specs.Records.{lineSize}
+use Rattle.records.specs.Words.{startWord}
+use Rattle.rereading.specs.Words.{FirstFrom}
 use Rattle.rereading.proofs.Words.{before-more}
 use Rattle.rereading.proofs.first_from.Statement.{statement}
 use Rattle.rereading.proofs.first_from.Tie as tie
@@ -29,7 +31,7 @@ shared-slice-read-if1 : tie.Need-shared-slice-read-if1 Inv-loop μ-loop
 shared-slice-read-if1 c = omega (arith, c .before .loop-test .taken, c .before .before .before .pre .1 .1)
 
 cast-if1 : tie.Need-cast-if1 Inv-loop μ-loop
-cast-if1 c = omega (arith, c .shared-slice-known .given (21 * c .before .before .loop .r))
+cast-if1 c = omega (arith, c .shared-slice-known .given (lineSize * c .before .before .loop .r))
 
 returns : tie.Need-returns Inv-loop μ-loop
 returns c =

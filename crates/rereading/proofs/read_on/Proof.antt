@@ -10,9 +10,10 @@ use lib.Seq.{length-take-le}
 use borrow.Author.Needs.{needs}
 use Rattle.rules.specs.Line.{failed, overLimit, readLine}
 use Rattle.rules.specs.Reading.{Entry, linesOf, readFrom, lineAt, sizeAt}
+use Rattle.rules.specs.Records.{widthWords, lineSize}
 use Rattle.rules.proofs.LoopLaws.{read-end}
 use Rattle.laws.proofs.Puts.{putIf-none}
-use Rattle.line.specs.States.{stateOf}
+use Rattle.records.specs.States.{stateOf}
 use Rattle.line.specs.LineCuts.{RoomIn}
 use Rattle.lines.specs.declared.Step.{Step}
 use Rattle.lines.specs.Steps.{StepIs}
@@ -50,7 +51,7 @@ module _ (l : tie.At-loop Inv-loop μ-loop) where
   may : let a = start .args in MayPut (a .write) (readFrom 16 (stateOf (a .start) (a .widths .now)) (linesOf text)) (a .base + length text) (a .kept) (a .i) (a .first) (length (a .lines .now)) (length (a .tokens .now))
   may = start .pre .1 .1 .1 .1 .1 .1 .1 .1
 
-  first-levels : length (stateOf (start .args .start) (start .args .widths .now) .widths) ≤ 16
+  first-levels : length (stateOf (start .args .start) (start .args .widths .now) .widths) ≤ widthWords
   first-levels =
       let p = start .pre .1 .1 .1 .1 .1 .1 .1 .0 .1 in
       omega (arith, length-take-le (start .args .start .levels) (start .args .widths .now) (omega (arith, p .0, p .1)), p .0)
@@ -71,7 +72,7 @@ module _ (l : tie.At-loop Inv-loop μ-loop) where
 
 -- The next line's token, and its room where the pass writes.
 next-room : (i : tie.In-loop Inv-loop μ-loop) → let l = i .before in let a = start l .args in let x = l .loop in
-    (a .first + x .k ≤ 3_000_000) × (a .write ≡ true → (21 * (a .i + x .c) + 21 ≤ length (a .lines .now)) × RoomIn (readLine 16 (stateOf (x .s) (x .widths)) (lineAt (text l) (x .q))) (a .first + x .k) (length (a .tokens .now)))
+    (a .first + x .k ≤ 3_000_000) × (a .write ≡ true → (lineSize * (a .i + x .c) + lineSize ≤ length (a .lines .now)) × RoomIn (readLine 16 (stateOf (x .s) (x .widths)) (lineAt (text l) (x .q))) (a .first + x .k) (length (a .tokens .now)))
 next-room i =
     let l = i .before in
     may-next (come l .pass) (i .loop-test .taken) (may l) (far l .3)

@@ -12,7 +12,8 @@ use denote.Enum.Declared.{tagOf}
 use borrow.Author.Needs.{needs}
 use Rattle.rules.specs.Line.{State}
 use Rattle.rules.specs.Reading.{Reading, linesOf, readFrom}
-use Rattle.line.specs.States.{stateOf}
+use Rattle.rules.specs.Records.{lineSize}
+use Rattle.records.specs.States.{stateOf}
 use Rattle.rereading.specs.Rereads.{RereadIs}
 use Rattle.rereading.specs.Rewrites.{MayPut, EndsIn}
 use Rattle.rereading.specs.declared.Reread.{Reread}
@@ -88,7 +89,7 @@ same-length-6 c = search needs
 returns-2 : tie.Need-returns-2
 returns-2 c =
     let r = c .before .before .before .before .before .before .before in
-    absurd (comes-to-end (start r) (replicate 21 0) (r .read-on .result) (r .read-on .ensures .0) (c .match .keys2))
+    absurd (comes-to-end (start r) (replicate lineSize 0) (r .read-on .result) (r .read-on .ensures .0) (c .match .keys2))
 
 pub rewrite-lines-spec : {M : Type 1} → statement M
 rewrite-lines-spec =

@@ -3,7 +3,8 @@
 use Prim.Native.Nat.{_*_}
 use mathlib.Core.Path.{sym, _∙_}
 use native.Mathlib.Omega.{arith}
-use Rattle.line.specs.States.{stateOf}
+use Rattle.rules.specs.Records.{lineSize}
+use Rattle.records.specs.States.{stateOf}
 use Rattle.rereading.proofs.Words.{stop-near, stop-elsewhere, stop-here}
 use borrow.Author.Needs.{needs}
 use Rattle.rereading.proofs.stops_at.Statement.{statement}
@@ -24,7 +25,7 @@ shared-slice-read-if2 : tie.Need-shared-slice-read-if2
 shared-slice-read-if2 c = search needs
 
 cast-if2 : tie.Need-cast-if2
-cast-if2 c = omega (arith, c .shared-slice-known3 .given (21 * c .before .before .before .before .args .j))
+cast-if2 c = omega (arith, c .shared-slice-known3 .given (lineSize * c .before .before .before .before .args .j))
 
 old-byte-requires : tie.Need-old-byte-requires
 old-byte-requires c κs = search needs

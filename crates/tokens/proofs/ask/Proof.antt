@@ -6,6 +6,7 @@ use mathlib.Core.Bool.{true, false}
 use native.Mathlib.Omega.{arith}
 use borrow.Author.Tests.{not-true, not-false}
 use Rattle.rules.specs.TokenText.{tokenWord}
+use Rattle.rules.specs.Records.{tokenSize}
 use Rattle.header.specs.Pages.{page}
 use Rattle.header.proofs.Fitting.{fits-by}
 use Rattle.tokens.proofs.Tests.{first-word, unfit-by, no-page, no-number, in-tokens, no-token, in-text, no-names, granted}
@@ -61,7 +62,7 @@ shared-slice-read-position c =
 cast-position : tie.Need-cast-position
 cast-position c =
     let i = c .before .before .before .before .before .before .before .before .args .i in
-    omega (arith, c .shared-slice-known5 .given (5 * i + 1))
+    omega (arith, c .shared-slice-known5 .given (tokenSize * i + 1))
 
 add-size : tie.Need-add-size
 add-size c = search needs
@@ -80,12 +81,12 @@ shared-slice-read-size c =
 cast-size : tie.Need-cast-size
 cast-size c =
     let i = c .before .before .before .before .before .before .before .before .before .args .i in
-    omega (arith, c .shared-slice-known6 .given (5 * i + 2))
+    omega (arith, c .shared-slice-known6 .given (tokenSize * i + 2))
 
 is-unfit-requires : tie.Need-is-unfit-requires
 is-unfit-requires c κs =
     let i = c .before .before .before .before .before .before .before .before .before .args .i in
-    omega (arith, c .shared-slice-known6 .given (5 * i + 1), c .shared-slice-known6 .given (5 * i + 2))
+    omega (arith, c .shared-slice-known6 .given (tokenSize * i + 1), c .shared-slice-known6 .given (tokenSize * i + 2))
 
 returns-3 : tie.Need-returns-3
 unfolding tokenWord

@@ -7,9 +7,9 @@ use native.Mathlib.Omega.{arith}
 use lib.ListN.{length, take, drop, length-drop, length-take}
 use Rattle.rules.specs.Line.{State}
 use Rattle.rules.specs.Reading.{Reading, linesOf, readFrom}
-use Rattle.line.specs.States.{stateOf}
+use Rattle.records.specs.States.{stateOf}
 use Rattle.rereading.specs.Rewrites.{Reaches}
-use Rattle.planning.specs.Starts.{lineWord}
+use Rattle.records.specs.Words.{lineWord}
 use Rattle.planning.specs.Plans.{plannedLines, Planned}
 use Rattle.writing.proofs.Writes.{Bounds, bounds, Reached, new-le, part-lines, few-from, room-moved, end-room, lines-written, tokens-written}
 use borrow.Author.Needs.{needs}

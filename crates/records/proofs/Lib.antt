@@ -1,0 +1,4 @@
+pub mod Five
+pub mod Widths
+pub mod LineRecords
+pub mod Words

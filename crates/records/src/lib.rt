@@ -1,0 +1,235 @@
+// The words of a token record and of a line record: put, loaded and compared.
+ghost use mathlib.Core.Path.{_≡_};
+ghost use mathlib.Core.Bool.{true};
+ghost use mathlib.Core.List.{[], _∷_};
+ghost use Prim.Native.Nat.{_+_, _*_, _≤_, _<_};
+ghost use lib.ListN.{length, getD, take, drop};
+ghost use lib.Seq.{sets};
+ghost use Rattle.laws.specs.Puts.{putIf};
+ghost use Rattle.rules.specs.Lists.{begins, same};
+ghost use Rattle.rules.specs.Records.{widthWords, lineSize, tokenSize, packed, stateWords, lineRecord};
+ghost use Rattle.records.specs.States.{stateOf};
+ghost use Rattle.records.specs.Words.{lineWord, stateIn, stateFrom};
+
+// The levels whose widths a line record holds.
+pub const LEVELS: usize = 16;
+
+// The words of a line record: start, first token, depth, arrow, open levels, then the widths.
+pub const LINE: usize = 21;
+
+// The words of a token record: kind, position, length, line, column.
+pub const TOKEN: usize = 5;
+
+// The state before a line; the widths of its open levels stand beside it, outermost first.
+pub struct State {
+    pub depth: u32,
+    pub arrow: bool,
+    pub levels: usize,
+}
+
+// Five words from an index on.
+fn put_five(words: &mut [u32], at: usize, a: u32, b: u32, c: u32, d: u32, e: u32)
+    requires { ⌜ at + 5 ≤ length (now words) ⌝ }
+    ensures { λ _. ⌜ now (words .exit) ≡ sets (now (words .entry)) at (a ∷ b ∷ c ∷ d ∷ e ∷ []) ⌝ }
+{
+    words[at] = a;
+    words[at + 1] = b;
+    words[at + 2] = c;
+    words[at + 3] = d;
+    words[at + 4] = e;
+}
+
+// The words from an index on begin with these five.
+fn same_five(words: &[u32], at: usize, a: u32, b: u32, c: u32, d: u32, e: u32) -> bool
+    requires { ⌜ at ≤ 100_000_000 ⌝ }
+    ensures { λ r. ⌜ r ≡ begins (a ∷ b ∷ c ∷ d ∷ e ∷ []) (drop at (now (words .entry))) ⌝ }
+{
+    if words.len() < at + 5 {
+        return false;
+    }
+    if a != words[at] {
+        return false;
+    }
+    if b != words[at + 1] {
+        return false;
+    }
+    if c != words[at + 2] {
+        return false;
+    }
+    if d != words[at + 3] {
+        return false;
+    }
+    e == words[at + 4]
+}
+
+// Token record k, where the pass writes: kind, position, length, line, column.
+pub fn put_token(
+    tokens: &mut [u32],
+    write: bool,
+    k: usize,
+    kind: u32,
+    position: u32,
+    size: u32,
+    number: u32,
+    column: u32,
+)
+    requires { ⌜ (write ≡ true → tokenSize * k + tokenSize ≤ length (now tokens)) ⌝ }
+    ensures { λ _. ⌜ now (tokens .exit) ≡ putIf write (now (tokens .entry)) (tokenSize * k) (kind ∷ position ∷ size ∷ number ∷ column ∷ []) ⌝ }
+{
+    if !write {
+        return;
+    }
+    put_five(tokens, TOKEN * k, kind, position, size, number, column);
+}
+
+// Token record k has this kind, position, length, line and column.
+pub fn same_token(
+    tokens: &[u32],
+    k: usize,
+    kind: u32,
+    position: u32,
+    size: u32,
+    number: u32,
+    column: u32,
+) -> bool
+    requires { ⌜ k ≤ 10_000_000 ⌝ }
+    ensures { λ r. ⌜ r ≡ begins (kind ∷ position ∷ size ∷ number ∷ column ∷ []) (drop (tokenSize * k) (now (tokens .entry))) ⌝ }
+{
+    same_five(tokens, TOKEN * k, kind, position, size, number, column)
+}
+
+// The width of level i, 0 past the open ones.
+fn width_at(widths: &[u32], levels: usize, i: usize) -> u32
+    requires { ⌜ (length (now widths) ≡ widthWords) × ((levels ≤ widthWords) × (i < widthWords)) ⌝ }
+    ensures { λ r. ⌜ r ≡ getD (packed (take levels (now (widths .entry)))) i 0 ⌝ }
+{
+    if i < levels {
+        return widths[i];
+    }
+    0
+}
+
+// The widths of the open levels from an index on, and 0 for each other word.
+fn put_widths(lines: &mut [u32], at: usize, widths: &[u32], levels: usize)
+    requires { ⌜ (length (now widths) ≡ widthWords) × ((levels ≤ widthWords) × (at + widthWords ≤ length (now lines))) ⌝ }
+    ensures { λ _. ⌜ now (lines .exit) ≡ sets (now (lines .entry)) at (packed (take levels (now (widths .entry)))) ⌝ }
+{
+    let mut i: usize = 0;
+    while i < LEVELS {
+        lines[at + i] = width_at(widths, levels, i);
+        i += 1;
+    }
+}
+
+// The widths that stand from an index on.
+fn load_widths(lines: &[u32], at: usize, widths: &mut [u32])
+    requires { ⌜ (length (now widths) ≡ widthWords) × (at + widthWords ≤ length (now lines)) ⌝ }
+    ensures { λ _. ⌜ now (widths .exit) ≡ take widthWords (drop at (now (lines .entry))) ⌝ }
+{
+    let mut x: usize = 0;
+    while x < LEVELS {
+        widths[x] = lines[at + x];
+        x += 1;
+    }
+}
+
+// The words from an index on begin with the widths of the open levels, and 0 for each other one.
+fn same_widths(lines: &[u32], at: usize, widths: &[u32], levels: usize) -> bool
+    requires { ⌜ (length (now widths) ≡ widthWords) × ((levels ≤ widthWords) × (at + widthWords ≤ length (now lines))) ⌝ }
+    ensures { λ r. ⌜ r ≡ begins (packed (take levels (now (widths .entry)))) (drop at (now (lines .entry))) ⌝ }
+{
+    let mut i: usize = 0;
+    while i < LEVELS {
+        if width_at(widths, levels, i) != lines[at + i] {
+            return false;
+        }
+        i += 1;
+    }
+    true
+}
+
+// Line record m, where the pass writes: the start, the first token's number, the state.
+pub fn put_line(
+    lines: &mut [u32],
+    write: bool,
+    m: usize,
+    start: u32,
+    first: u32,
+    s: State,
+    widths: &[u32],
+)
+    requires { ⌜ (length (now widths) ≡ widthWords) × (s .levels ≤ widthWords) ⌝ }
+    requires { ⌜ (write ≡ true → lineSize * m + lineSize ≤ length (now lines)) ⌝ }
+    ensures { λ _. ⌜ now (lines .exit) ≡ putIf write (now (lines .entry)) (lineSize * m) (lineRecord start first (stateOf s (now (widths .entry)))) ⌝ }
+{
+    if !write {
+        return;
+    }
+    let at = LINE * m;
+    put_five(
+        lines,
+        at,
+        start,
+        first,
+        s.depth,
+        s.arrow as u32,
+        s.levels as u32,
+    );
+    put_widths(lines, at + 5, widths, s.levels);
+}
+
+// Line record m has this start, first token's number and state.
+pub fn same_line(lines: &[u32], m: usize, start: u32, first: u32, s: State, widths: &[u32]) -> bool
+    requires { ⌜ (length (now widths) ≡ widthWords) × ((s .levels ≤ widthWords) × (m ≤ 1_048_576)) ⌝ }
+    ensures { λ r. ⌜ r ≡ begins (lineRecord start first (stateOf s (now (widths .entry)))) (drop (lineSize * m) (now (lines .entry))) ⌝ }
+{
+    let at = LINE * m;
+    if lines.len() < at + LINE {
+        return false;
+    }
+    if !same_five(
+        lines,
+        at,
+        start,
+        first,
+        s.depth,
+        s.arrow as u32,
+        s.levels as u32,
+    ) {
+        return false;
+    }
+    same_widths(lines, at + 5, widths, s.levels)
+}
+
+// The state in line record i, its widths beside it.
+pub fn load_state(lines: &[u32], i: usize, widths: &mut [u32]) -> State
+    requires { ⌜ (i ≤ 1_048_576) × ((lineSize * (i + 1) ≤ length (now lines)) × (length (now widths) ≡ widthWords)) ⌝ }
+    requires { ⌜ lineWord (now lines) i 4 ≤ widthWords ⌝ }
+    ensures { λ r. ⌜ (stateOf r (now (widths .exit)) ≡ stateFrom (now (lines .entry)) i) × (r .levels ≤ widthWords) ⌝ }
+{
+    let at = LINE * i;
+    load_widths(lines, at + 5, widths);
+    State {
+        depth: lines[at + 2],
+        arrow: lines[at + 3] != 0,
+        levels: lines[at + 4] as usize,
+    }
+}
+
+// The state in line record j is this one.
+pub fn same_state(lines: &[u32], j: usize, s: State, widths: &[u32]) -> bool
+    requires { ⌜ (length (now widths) ≡ widthWords) × ((s .levels ≤ widthWords) × ((j ≤ 4_294_967_295) × (lineSize * (j + 1) ≤ length (now lines)))) ⌝ }
+    ensures { λ r. ⌜ r ≡ same (stateIn (now (lines .entry)) j) (stateWords (stateOf s (now (widths .entry)))) ⌝ }
+{
+    let at = LINE * j + 2;
+    if lines[at] != s.depth {
+        return false;
+    }
+    if lines[at + 1] != s.arrow as u32 {
+        return false;
+    }
+    if lines[at + 2] != s.levels as u32 {
+        return false;
+    }
+    same_widths(lines, at + 3, widths, s.levels)
+}
