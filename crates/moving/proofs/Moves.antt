@@ -2,16 +2,18 @@
 -- Assumes nothing.
 use Prim.Native.Nat.{ℕ, zero, suc, _+_, _-_, _*_, _≤_, _<_}
 use mathlib.Core.Path.{_≡_, refl, sym, ap, subst, _∙_}
+use mathlib.Core.Bool.{Bool, true, false}
 use mathlib.Core.List.{List, [], _∷_, _++_, append-nil}
-use mathlib.Core.Logic.{_⊎_, inl, inr, ⊎-elim}
 use native.Mathlib.Omega.{arith}
-use native.Mathlib.Nat.{add-zero, zero-add, add-assoc, eq-zero-or-pos, mul-le-mul-left}
+use native.Mathlib.Nat.{add-zero, zero-add, add-assoc, mul-le-mul-left}
 use lib.ListN.{length, getD, set}
-use lib.Seq.{sets, set-getD, getD-set-other}
+use lib.Seq.{sets, length-sets, set-getD, getD-set-other}
 use Rattle.laws.specs.Blocks.{blocks}
 use Rattle.laws.proofs.Sets.{sets-append, sets-before, blocks-same, blocks-from, blocks-append, blocks-length, getD-sets-above, getD-sets-below}
-use Rattle.moving.specs.Moved.{wordValues, distance, shifted, words, movedToken, movedLine}
-use Rattle.moving.proofs.Words.{length-words, words-at, words-same, words-append, getD-sets-in, sets-again, sets-words}
+use Rattle.rules.specs.Records.{lineSize, tokenSize}
+use Rattle.rules.proofs.RecordLaws.{stateSize}
+use Rattle.moving.specs.Moved.{Way, place, wordValues, distance, shifted, words, sizeOf, movedToken, movedLine, movedRecord}
+use Rattle.moving.proofs.Words.{length-words, words-at, words-same, words-append, getD-sets-in, sets-again, sets-words, low}
 
 -- a record is w words, made of the w words at its place
 pub record Width (w : ℕ) (g : List ℕ → ℕ → List ℕ) : Type 0 where
@@ -19,14 +21,6 @@ pub record Width (w : ℕ) (g : List ℕ → ℕ → List ℕ) : Type 0 where
   pub near : (ws l : List ℕ) (i k : ℕ) → ((t : ℕ) → t < w → getD ws (i + t) 0 ≡ getD l (k + t) 0) → g ws i ≡ g l k
 
 module _ {w : ℕ} {g : List ℕ → ℕ → List ℕ} (r : Width w g) (l : List ℕ) where
-  -- the w words from s brought to d, then made a record there
-  pub brought : (ws : List ℕ) (s d : ℕ) → d + w ≤ length l → ws ≡ sets l d (words l s w) → sets ws d (g ws d) ≡ sets l d (g l s)
-  brought ws s d h e =
-      let n = length-words l s w in
-      ap (λ (v : List ℕ). sets ws d v) (r .near ws l d s (λ t v. ap (λ (k : List ℕ). getD k (d + t) 0) e ∙ getD-sets-in (words l s w) l d t (omega arith) (omega arith) ∙ words-at l s w t v))
-      ∙ ap (λ (k : List ℕ). sets k d (g l s)) e
-      ∙ sets-again (words l s w) (g l s) l d (n ∙ sym (r .wide l s)) (omega arith)
-
   -- n records' words brought from record s to record d, then made records there
   pub all-brought : (ws : List ℕ) (s d n : ℕ) → w * (d + n) ≤ length l → ws ≡ sets l (w * d) (words l (w * s) (w * n))
       → sets ws (w * d) (blocks (λ j. g ws (w * (d + j))) 0 n) ≡ sets l (w * d) (blocks (λ j. g l (w * (s + j))) 0 n)
@@ -97,15 +91,62 @@ module _ {w : ℕ} {g : List ℕ → ℕ → List ℕ} (r : Width w g) (l : List
         ap (sets ws b) (sym (append-nil (g ws (at j))))
         ∙ down-more ws base j 1 b (λ i. at j) e eb (λ i v. ap at (omega arith)) (λ i v. subst (λ (k : ℕ). b ≤ at k) (omega arith) h)
 
-    -- the one before
-    pub up-turn : (ws : List ℕ) (j j₁ n n₁ b b₁ : ℕ) → ws ≡ sets l b₁ (blocks (λ j. g l (at j)) j₁ n) → j₁ ≡ suc j → n₁ ≡ suc n → b₁ ≡ b + w → at j ≤ b
-        → sets ws b (g ws (at j)) ≡ sets l b (blocks (λ j. g l (at j)) j n₁)
-    up-turn ws j j₁ n n₁ b b₁ e ej en eb h =
-        let one : 1 + n ≡ n₁ = omega arith in
-        let h′ : at j + w ≤ b₁ = omega arith in
-        ap (sets ws b) (sym (append-nil (g ws (at j))))
-        ∙ up-more ws j j₁ 1 n b b₁ (λ i. at j) e (omega arith) (omega arith) (λ i v. ap at (omega arith)) (λ i v. subst (λ (k : ℕ). at k + w ≤ b₁) (omega arith) h′)
-        ∙ ap (λ (k : ℕ). sets l b (blocks (λ j. g l (at j)) j k)) one
+-- Records moved a part at a time, either way: the words of k records are brought from their place to another, and made records there.
+module _ {w : ℕ} {g : List ℕ → ℕ → List ℕ} (r : Width w g) (l ws ws₁ : List ℕ) (s d k done : ℕ) where
+  abbrev f : ℕ → List ℕ
+  f j = g l (w * (s + j))
+
+  part-down : d ≤ s → w * (d + (done + k)) ≤ length l → ws ≡ sets l (w * d) (blocks f 0 done) → ws₁ ≡ sets ws (w * (d + done)) (words ws (w * (s + done)) (w * k))
+      → sets ws₁ (w * (d + done)) (blocks (λ i. g ws₁ (w * (d + done + i))) 0 k) ≡ sets l (w * d) (blocks f 0 (done + k))
+  part-down way room e e₁ =
+      let n = ap length e ∙ length-sets l (w * d) (blocks f 0 done) in
+      all-brought r ws ws₁ (s + done) (d + done) k (omega arith) e₁
+      ∙ down-more r l (λ i. w * (s + i)) ws (w * d) done k (w * (d + done)) (λ i. w * (s + done + i)) e (omega arith) (λ i v. omega arith) (λ i v. above i)
+    where
+      above : (i : ℕ) → w * (d + done) ≤ w * (s + (done + i))
+      above i = let h : d + done ≤ s + (done + i) = omega arith in mul-le-mul-left w h
+
+  part-up : (j x : ℕ) → s ≤ d → x ≡ j + k → w * (d + (x + done)) ≤ length l → ws ≡ sets l (w * (d + x)) (blocks f x done)
+      → ws₁ ≡ sets ws (w * (d + j)) (words ws (w * (s + j)) (w * k))
+      → sets ws₁ (w * (d + j)) (blocks (λ i. g ws₁ (w * (d + j + i))) 0 k) ≡ sets l (w * (d + j)) (blocks f j (k + done))
+  part-up j x way q room e e₁ =
+      let n = ap length e ∙ length-sets l (w * (d + x)) (blocks f x done) in
+      let room₁ : w * (d + (j + k + done)) ≤ length l = subst (λ (y : ℕ). w * (d + (y + done)) ≤ length l) q room in
+      all-brought r ws ws₁ (s + j) (d + j) k (omega arith) e₁
+      ∙ up-more r l (λ i. w * (s + i)) ws j x k done (w * (d + j)) (w * (d + x)) (λ i. w * (s + j + i)) e q (ap (λ (y : ℕ). w * (d + y)) q ∙ omega arith) (λ i v. omega arith) (λ i v. below i v)
+    where
+      below : (i : ℕ) → i < k → w * (s + (j + i)) + w ≤ w * (d + x)
+      below i v = let h : s + (j + i) + 1 ≤ d + x = omega arith in omega (arith, mul-le-mul-left w h)
+
+-- the first of those that are moved, when `done` of n are
+abbrev pub firstMoved : (up : Bool) → (n done : ℕ) → ℕ
+firstMoved true n done = n - done
+firstMoved false n done = 0
+
+-- so far `done` of n records are moved from s to d
+abbrev pub recordsSo : (w : ℕ) (g : List ℕ → ℕ → List ℕ) (up : Bool) → List ℕ → (s d n done : ℕ) → List ℕ
+recordsSo w g up l s d n done = sets l (w * low up d n done) (blocks (λ j. g l (w * (s + j))) (firstMoved up n done) done)
+
+pub records-next : {w : ℕ} {g : List ℕ → ℕ → List ℕ} → Width w g → (up : Bool) (l ws ws₁ : List ℕ) (s d n done k : ℕ) → Way up s d → done + k ≤ n → w * (d + n) ≤ length l
+    → ws ≡ recordsSo w g up l s d n done
+    → ws₁ ≡ sets ws (w * (d + place up done k n)) (words ws (w * (s + place up done k n)) (w * k))
+    → sets ws₁ (w * (d + place up done k n)) (blocks (λ i. g ws₁ (w * (d + place up done k n + i))) 0 k) ≡ recordsSo w g up l s d n (done + k)
+records-next {w} {g} r true l ws ws₁ s d n done k way h room e e₁ =
+    let at : n - done - k ≡ n - (done + k) = omega arith in
+    let count : k + done ≡ done + k = omega arith in
+    let all : n ≡ n - done + done = omega arith in
+    part-up r l ws ws₁ s d k done (n - done - k) (n - done) way (omega arith) (subst (λ (y : ℕ). w * (d + y) ≤ length l) all room) e e₁
+    ∙ (λ t. sets l (w * (d + at t)) (blocks (λ j. g l (w * (s + j))) (at t) (count t)))
+records-next {w} {g} r false l ws ws₁ s d n done k way h room e e₁ =
+    let b : d + (done + k) ≤ d + n = omega arith in
+    part-down r l ws ws₁ s d k done way (omega (arith, mul-le-mul-left w b)) e e₁
+
+pub records-all : (w : ℕ) (g : List ℕ → ℕ → List ℕ) (up : Bool) (l : List ℕ) (s d n : ℕ) → recordsSo w g up l s d n n ≡ sets l (w * d) (blocks (λ j. g l (w * (s + j))) 0 n)
+records-all w g true l s d n =
+    let z : n - n ≡ 0 = omega arith in
+    let a : d + (n - n) ≡ d = omega arith in
+    λ t. sets l (w * a t) (blocks (λ j. g l (w * (s + j))) (z t) n)
+records-all w g false l s d n = refl
 
 -- records that are the words where they stand
 pub blocks-still : (w : ℕ) (l : List ℕ) (f : ℕ → List ℕ) (from : ℕ) → ((j : ℕ) → f j ≡ words l (w * (from + j)) w) → (i n : ℕ) → sets l (w * (from + i)) (blocks f i n) ≡ l
@@ -123,23 +164,13 @@ pub by-bases : (w : ℕ) (g : ℕ → ℕ → List ℕ → ℕ → List ℕ) (p 
     → sets l (w * i) (blocks (λ j. g d e l (w * (from + j))) 0 n) ≡ sets l (w * j) (blocks (λ j. g (distance p p′) (distance k k′) l (w * (from + j))) 0 n)
 by-bases w g p p′ k k′ l from n d e i j ed ee ei = λ t. sets l (w * ei t) (blocks (λ j. g (ed t) (ee t) l (w * (from + j))) 0 n)
 
--- the same place, one below, or one past the record
-pub apart : (w from to : ℕ) → (w * to ≤ w * from) ⊎ (w * from + w ≤ w * to)
-apart w from to =
-    ⊎-elim (λ (x : to - from ≡ 0). inl (mul-le-mul-left w (omega arith)))
-    (λ (x : 0 < to - from). inr (below (omega arith)))
-    (eq-zero-or-pos (to - from))
-  where
-    below : from + 1 ≤ to → w * from + w ≤ w * to
-    below h = omega (arith, mul-le-mul-left w h)
-
 -- a word stored where it stands already
 set-kept : (l k : List ℕ) (i : ℕ) → getD l i 0 ≡ getD k i 0 → set l i (getD k i 0) ≡ l
 set-kept l k i e = ap (set l i) (sym e) ∙ set-getD l i 0
 
 -- Token records.
 
-pub token-width : (d e : ℕ) → Width 5 (movedToken d e)
+pub token-width : (d e : ℕ) → Width tokenSize (movedToken d e)
 unfolding movedToken
 token-width d e =
     record {
@@ -173,14 +204,14 @@ token-stores d e l i x y ex ey =
 
 -- Line records.
 
-pub line-width : (d e : ℕ) → Width 21 (movedLine d e)
+pub line-width : (d e : ℕ) → Width lineSize (movedLine d e)
 unfolding movedLine
 line-width d e =
     record {
-      wide = λ ws i. ap (λ (n : ℕ). suc (suc n)) (length-words ws (i + 2) 19);
+      wide = λ ws i. ap (λ (n : ℕ). suc (suc n)) (length-words ws (i + 2) stateSize);
       near = λ ws l i k h.
           let a : getD ws i 0 ≡ getD l k 0 = rw (add-zero i, add-zero k) at (h 0 (omega arith)) in
-          let b : words ws (i + 2) 19 ≡ words l (k + 2) 19 = words-same ws l (i + 2) (k + 2) 19 (λ t v. later ws l i k t (h (2 + t) (omega arith))) in
+          let b : words ws (i + 2) stateSize ≡ words l (k + 2) stateSize = words-same ws l (i + 2) (k + 2) stateSize (λ t v. later ws l i k t (h (2 + t) (omega arith))) in
           rw (a, h 1 (omega arith), b);
     }
   where
@@ -194,10 +225,10 @@ line-stores d e l i x y ex ey =
     let e1 : i + 1 ≡ suc i = omega arith in
     let e2 : suc (suc i) ≡ i + 2 = omega arith in
     let a : List ℕ = set (set l i (shifted d (getD l i 0))) (suc i) (shifted e (getD l (i + 1) 0)) in
-    let kept : words l (i + 2) 19 ≡ words a (i + 2) 19 =
-    words-same l a (i + 2) (i + 2) 19 (λ t v. sym (getD-set-other (set l i (shifted d (getD l i 0))) (suc i) (i + 2 + t) (shifted e (getD l (i + 1) 0)) 0 (omega arith) ∙ getD-set-other l i (i + 2 + t) (shifted d (getD l i 0)) 0 (omega arith))) in
+    let kept : words l (i + 2) stateSize ≡ words a (i + 2) stateSize =
+    words-same l a (i + 2) (i + 2) stateSize (λ t v. sym (getD-set-other (set l i (shifted d (getD l i 0))) (suc i) (i + 2 + t) (shifted e (getD l (i + 1) 0)) 0 (omega arith) ∙ getD-set-other l i (i + 2 + t) (shifted d (getD l i 0)) 0 (omega arith))) in
     ap (λ (v : ℕ). set (set l i v) (i + 1) y) ex ∙ ap (λ (v : ℕ). set (set l i (shifted d (getD l i 0))) (i + 1) v) ey ∙ ap (λ (n : ℕ). set (set l i (shifted d (getD l i 0))) n (shifted e (getD l (i + 1) 0))) e1
-    ∙ sym (ap (sets a (suc (suc i))) kept ∙ ap (λ (n : ℕ). sets a n (words a (i + 2) 19)) e2 ∙ sets-words a (i + 2) 19)
+    ∙ sym (ap (sets a (suc (suc i))) kept ∙ ap (λ (n : ℕ). sets a n (words a (i + 2) stateSize)) e2 ∙ sets-words a (i + 2) stateSize)
 
 -- A move by nothing.
 
@@ -206,7 +237,7 @@ module _ (d e : ℕ) (l : List ℕ) (small : (i : ℕ) → getD l i 0 < wordValu
   unfolding shifted
   unshifted by i h = omega (arith, small i)
 
-  pub token-kept : (i : ℕ) → movedToken d e l i ≡ words l i 5
+  pub token-kept : (i : ℕ) → movedToken d e l i ≡ words l i tokenSize
   unfolding movedToken words
   token-kept i = rw (add-zero i, unshifted d (i + 1) ed, unshifted e (i + 3) ee)
 
@@ -214,7 +245,22 @@ module _ (d e : ℕ) (l : List ℕ) (small : (i : ℕ) → getD l i 0 < wordValu
   unfolding words
   two-words i = rw (add-zero i)
 
-  pub line-kept : (i : ℕ) → movedLine d e l i ≡ words l i 21
+  pub line-kept : (i : ℕ) → movedLine d e l i ≡ words l i lineSize
   unfolding movedLine
   line-kept i =
-      rw (unshifted d i ed, unshifted e (i + 1) ee) (sym (words-append l i 2 19 ∙ ap (λ (r : List ℕ). r ++ words l (i + 2) 19) (two-words i)))
+      rw (unshifted d i ed, unshifted e (i + 1) ee) (sym (words-append l i 2 stateSize ∙ ap (λ (r : List ℕ). r ++ words l (i + 2) stateSize) (two-words i)))
+
+-- Records of either kind.
+
+pub some-size : (line : Bool) (size : ℕ) → size ≡ sizeOf line → 1 ≤ size
+some-size true size h = omega arith
+some-size false size h = omega arith
+
+pub record-width : (line : Bool) (size d e : ℕ) → size ≡ sizeOf line → Width size (movedRecord line d e)
+record-width true size d e h = subst (λ (w : ℕ). Width w (movedLine d e)) (sym h) (line-width d e)
+record-width false size d e h = subst (λ (w : ℕ). Width w (movedToken d e)) (sym h) (token-width d e)
+
+pub record-kept : (line : Bool) (size d e : ℕ) (l : List ℕ) → size ≡ sizeOf line → ((i : ℕ) → getD l i 0 < wordValues) → d ≡ 0 → e ≡ 0 → (i : ℕ)
+    → movedRecord line d e l i ≡ words l i size
+record-kept true size d e l h small ed ee i = line-kept d e l small ed ee i ∙ ap (words l i) (sym h)
+record-kept false size d e l h small ed ee i = token-kept d e l small ed ee i ∙ ap (words l i) (sym h)

@@ -11,8 +11,8 @@ use Rattle.laws.specs.Blocks.{blocks}
 use Rattle.laws.proofs.Sets.{blocks-length}
 use Rattle.rules.specs.Line.{State, Token}
 use Rattle.rules.specs.Reading.{Entry, tokenSum}
-use Rattle.rules.specs.Records.{stateWords, lineRecord, lineRecords, tokenWords, tokenRecords}
-use Rattle.rules.proofs.RecordLaws.{length-stateWords}
+use Rattle.rules.specs.Records.{lineSize, tokenSize, stateWords, lineRecord, lineRecords, tokenWords, tokenRecords}
+use Rattle.rules.proofs.RecordLaws.{stateSize, length-stateWords}
 use Rattle.rules.proofs.BoundLaws.{AllLe, wordMax}
 use Rattle.moving.specs.Moved.{distance, shifted, words, movedToken, movedTokens, movedLine, movedLines}
 use Rattle.moving.proofs.Words.{words-take}
@@ -20,15 +20,15 @@ use Rattle.moving.proofs.Moves.{Width, token-width, line-width}
 
 -- Lengths.
 
-pub length-movedTokens : (p p′ l l′ : ℕ) (ws : List ℕ) (from n : ℕ) → length (movedTokens p p′ l l′ ws from n) ≡ 5 * n
+pub length-movedTokens : (p p′ l l′ : ℕ) (ws : List ℕ) (from n : ℕ) → length (movedTokens p p′ l l′ ws from n) ≡ tokenSize * n
 unfolding movedTokens
 length-movedTokens p p′ l l′ ws from n =
-    blocks-length (λ j. movedToken (distance p p′) (distance l l′) ws (5 * (from + j))) 5 (λ j. token-width (distance p p′) (distance l l′) .wide ws (5 * (from + j))) 0 n ∙ mul-comm n 5
+    blocks-length (λ j. movedToken (distance p p′) (distance l l′) ws (tokenSize * (from + j))) tokenSize (λ j. token-width (distance p p′) (distance l l′) .wide ws (tokenSize * (from + j))) 0 n ∙ mul-comm n tokenSize
 
-pub length-movedLines : (p p′ k k′ : ℕ) (ws : List ℕ) (from n : ℕ) → length (movedLines p p′ k k′ ws from n) ≡ 21 * n
+pub length-movedLines : (p p′ k k′ : ℕ) (ws : List ℕ) (from n : ℕ) → length (movedLines p p′ k k′ ws from n) ≡ lineSize * n
 unfolding movedLines
 length-movedLines p p′ k k′ ws from n =
-    blocks-length (λ j. movedLine (distance p p′) (distance k k′) ws (21 * (from + j))) 21 (λ j. line-width (distance p p′) (distance k k′) .wide ws (21 * (from + j))) 0 n ∙ mul-comm n 21
+    blocks-length (λ j. movedLine (distance p p′) (distance k k′) ws (lineSize * (from + j))) lineSize (λ j. line-width (distance p p′) (distance k k′) .wide ws (lineSize * (from + j))) 0 n ∙ mul-comm n lineSize
 
 -- Records one after the other, from a list's front on.
 
@@ -66,7 +66,7 @@ module _ (p p′ l l′ : ℕ) where
 
   -- of one line, x bytes and y lines past the bases
   shift-tokens : (x y i : ℕ) (ts : List Token) (ys : List ℕ) → AllLe wordMax (tokenWords (p′ + x) (l′ + y) ts)
-      → each 5 token (length ts + i) (tokenWords (p + x) (l + y) ts ++ ys) ≡ tokenWords (p′ + x) (l′ + y) ts ++ each 5 token i ys
+      → each tokenSize token (length ts + i) (tokenWords (p + x) (l + y) ts ++ ys) ≡ tokenWords (p′ + x) (l′ + y) ts ++ each tokenSize token i ys
   unfolding movedToken tokenWords
   shift-tokens x y i [] ys h = rw zero-add
   shift-tokens x y i (t ∷ ts) ys h =
@@ -77,25 +77,25 @@ module _ (p p′ l l′ : ℕ) where
 
   -- of all lines
   shift-lines : (x y : ℕ) (es : List Entry) (rest : List ℕ) → AllLe wordMax (tokenRecords (p′ + x) (l′ + y) es)
-      → each 5 token (tokenSum es) (tokenRecords (p + x) (l + y) es ++ rest) ≡ tokenRecords (p′ + x) (l′ + y) es
+      → each tokenSize token (tokenSum es) (tokenRecords (p + x) (l + y) es ++ rest) ≡ tokenRecords (p′ + x) (l′ + y) es
   unfolding tokenRecords tokenSum
   shift-lines x y [] rest h = refl
   shift-lines x y (e ∷ es) rest h =
       let head : List ℕ = tokenWords (p′ + x) (l′ + y) (e .tokens) in
       let h2 : AllLe wordMax (tokenRecords (p′ + (x + e .size)) (l′ + suc y) es) =
       rw (add-assoc p′, ← add-suc l′ y) at (all-right wordMax head (tokenRecords (p′ + x + e .size) (suc (l′ + y)) es) h) in
-      ap (each 5 token (tokenSum (e ∷ es))) (append-assoc (tokenWords (p + x) (l + y) (e .tokens)) (tokenRecords (p + x + e .size) (suc (l + y)) es) rest)
+      ap (each tokenSize token (tokenSum (e ∷ es))) (append-assoc (tokenWords (p + x) (l + y) (e .tokens)) (tokenRecords (p + x + e .size) (suc (l + y)) es) rest)
       ∙ shift-tokens x y (tokenSum es) (e .tokens) (tokenRecords (p + x + e .size) (suc (l + y)) es ++ rest) (all-left wordMax head _ h)
       ∙ ap (λ (r : List ℕ). head ++ r) (rw (add-assoc p, add-assoc p′, ← add-suc l y, ← add-suc l′ y) (shift-lines (x + e .size) (suc y) es rest h2))
 
   -- the token records of lines, moved
-  pub moved-token-records : (ws : List ℕ) (from : ℕ) (es : List Entry) (rest : List ℕ) → drop (5 * from) ws ≡ tokenRecords p l es ++ rest
+  pub moved-token-records : (ws : List ℕ) (from : ℕ) (es : List Entry) (rest : List ℕ) → drop (tokenSize * from) ws ≡ tokenRecords p l es ++ rest
       → AllLe wordMax (tokenRecords p′ l′ es) → movedTokens p p′ l l′ ws from (tokenSum es) ≡ tokenRecords p′ l′ es
   unfolding movedTokens
   moved-token-records ws from es rest e h =
       blocks-each (token-width (distance p p′) (distance l l′)) ws from 0 (tokenSum es)
-      ∙ ap (λ (k : ℕ). each 5 token (tokenSum es) (drop (5 * k) ws)) (add-zero from)
-      ∙ ap (each 5 token (tokenSum es)) e
+      ∙ ap (λ (k : ℕ). each tokenSize token (tokenSum es) (drop (tokenSize * k) ws)) (add-zero from)
+      ∙ ap (each tokenSize token (tokenSum es)) e
       ∙ (rw (add-zero p, add-zero p′, add-zero l, add-zero l′) at (shift-lines 0 0 es rest (rw (add-zero p′, add-zero l′) h)))
 
 -- Lines.
@@ -104,13 +104,13 @@ module _ (p p′ k k′ : ℕ) where
   abbrev line : List ℕ → ℕ → List ℕ
   line = movedLine (distance p p′) (distance k k′)
 
-  state-words : (a b : ℕ) (s : State) (rest : List ℕ) → words (a ∷ b ∷ (stateWords s ++ rest)) 2 19 ≡ stateWords s
+  state-words : (a b : ℕ) (s : State) (rest : List ℕ) → words (a ∷ b ∷ (stateWords s ++ rest)) 2 stateSize ≡ stateWords s
   state-words a b s rest =
-      words-take (a ∷ b ∷ (stateWords s ++ rest)) 2 19 (omega (arith, length-append (stateWords s) rest, length-stateWords s))
-      ∙ take-at (stateWords s) rest 19 (length-stateWords s)
+      words-take (a ∷ b ∷ (stateWords s ++ rest)) 2 stateSize (omega (arith, length-append (stateWords s) rest, length-stateWords s))
+      ∙ take-at (stateWords s) rest stateSize (length-stateWords s)
 
   shift-records : (x y : ℕ) (es : List Entry) (rest : List ℕ) → AllLe wordMax (lineRecords (p′ + x) (k′ + y) es)
-      → each 21 line (length es) (lineRecords (p + x) (k + y) es ++ rest) ≡ lineRecords (p′ + x) (k′ + y) es
+      → each lineSize line (length es) (lineRecords (p + x) (k + y) es ++ rest) ≡ lineRecords (p′ + x) (k′ + y) es
   unfolding movedLine lineRecords lineRecord
   shift-records x y [] rest h = refl
   shift-records x y (e ∷ es) rest h =
@@ -120,20 +120,20 @@ module _ (p p′ k k′ : ℕ) where
       let h2 : shifted (distance k k′) (k + y) ≡ k′ + y = shifted-small k k′ y (h .1 .0) in
       let h3 : AllLe wordMax (lineRecords (p′ + (x + e .size)) (k′ + (y + length (e .tokens))) es) =
       rw (add-assoc p′, add-assoc k′) at (all-right wordMax sw (lineRecords (p′ + x + e .size) (k′ + y + length (e .tokens)) es) (h .1 .1)) in
-      ap (each 21 line (suc (length es)))
+      ap (each lineSize line (suc (length es)))
       (ap (λ (r : List ℕ). (p + x) ∷ (k + y) ∷ r) (append-assoc sw (lineRecords (p + x + e .size) (k + y + length (e .tokens)) es) rest))
-      ∙ ap (λ (r : List ℕ). (shifted (distance p p′) (p + x) ∷ shifted (distance k k′) (k + y) ∷ r) ++ each 21 line (length es) (drop 19 (sw ++ more)))
+      ∙ ap (λ (r : List ℕ). (shifted (distance p p′) (p + x) ∷ shifted (distance k k′) (k + y) ∷ r) ++ each lineSize line (length es) (drop stateSize (sw ++ more)))
       (state-words (p + x) (k + y) (e .before) more)
-      ∙ rw (drop-at sw more 19 (length-stateWords (e .before)), h1, h2)
+      ∙ rw (drop-at sw more stateSize (length-stateWords (e .before)), h1, h2)
       (ap (λ (r : List ℕ). (p′ + x) ∷ (k′ + y) ∷ (sw ++ r))
       (rw (add-assoc p, add-assoc k, add-assoc p′, add-assoc k′) (shift-records (x + e .size) (y + length (e .tokens)) es rest h3)))
 
   -- the records of lines, moved
-  pub moved-line-records : (ws : List ℕ) (from : ℕ) (es : List Entry) (rest : List ℕ) → drop (21 * from) ws ≡ lineRecords p k es ++ rest
+  pub moved-line-records : (ws : List ℕ) (from : ℕ) (es : List Entry) (rest : List ℕ) → drop (lineSize * from) ws ≡ lineRecords p k es ++ rest
       → AllLe wordMax (lineRecords p′ k′ es) → movedLines p p′ k k′ ws from (length es) ≡ lineRecords p′ k′ es
   unfolding movedLines
   moved-line-records ws from es rest e h =
       blocks-each (line-width (distance p p′) (distance k k′)) ws from 0 (length es)
-      ∙ ap (λ (n : ℕ). each 21 line (length es) (drop (21 * n) ws)) (add-zero from)
-      ∙ ap (each 21 line (length es)) e
+      ∙ ap (λ (n : ℕ). each lineSize line (length es) (drop (lineSize * n) ws)) (add-zero from)
+      ∙ ap (each lineSize line (length es)) e
       ∙ (rw (add-zero p, add-zero p′, add-zero k, add-zero k′) at (shift-records 0 0 es rest (rw (add-zero p′, add-zero k′) h)))

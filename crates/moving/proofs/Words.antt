@@ -1,17 +1,20 @@
 -- Laws of words read from a list and stored in it.
 -- Assumes nothing.
-use Prim.Native.Nat.{ℕ, zero, suc, _+_, _-_, _≤_, _<_}
+use Prim.Native.Nat.{ℕ, zero, suc, _+_, _-_, _*_, _≤_, _<_}
 use mathlib.Core.Path.{_≡_, refl, sym, ap, _∙_}
+use mathlib.Core.Bool.{Bool, true, false}
 use mathlib.Core.List.{List, [], _∷_, _++_, append-assoc}
-use mathlib.Core.Logic.{_⊎_, ⊎-elim}
+use mathlib.Core.Logic.{⊎-elim}
 use native.Mathlib.Omega.{arith}
-use native.Mathlib.Nat.{add-zero, add-suc, suc-add, eq-zero-or-pos}
+use native.Mathlib.Nat.{add-zero, add-suc, suc-add, eq-zero-or-pos, mul-le-mul-left}
+use lib.Dec.{ltb}
 use lib.ListN.{length, getD, set, take, drop, length-append, length-drop, length-set, List·getD-append}
-use lib.Seq.{sets, sets-eq, set-getD, getD-set-same, getD-take, getD-drop, getD-append-add, ext-getD, take-at, drop-at, length-take-le}
+use lib.Seq.{sets, length-sets, sets-eq, set-getD, getD-set-same, getD-take, getD-drop, getD-append-add, ext-getD, take-at, drop-at, length-take-le}
+use borrow.Author.Tests.{ltb-true, ltb-false}
 use Rattle.laws.specs.Blocks.{table}
 use Rattle.laws.proofs.Below.{entry}
 use Rattle.laws.proofs.Sets.{sets-append, sets-before, getD-sets-below, getD-sets-above}
-use Rattle.moving.specs.Moved.{words}
+use Rattle.moving.specs.Moved.{Way, place, words}
 
 -- Tables.
 
@@ -100,17 +103,13 @@ sets-words l i n = ap (λ (k : ℕ). sets l k (words l i n)) (sym (add-zero i)) 
         ∙ ap (λ (k : ℕ). sets l k (table (λ t. getD l (i + t) 0) (suc s) n)) (sym (add-suc i s))
         ∙ go (suc s) n
 
--- Words moved from s to d, a place that is s, below it, or past the w words of which these are the first.
-module _ (l ws : List ℕ) (w s d m n : ℕ) (h : m + n ≤ w) (p : (d ≤ s) ⊎ (s + w ≤ d)) (e : ws ≡ sets l d (words l s m)) where
+-- Words moved down: the first m from s on stand at d, and the n after them follow.
+module _ (l ws : List ℕ) (s d m n : ℕ) (p : d ≤ s) (e : ws ≡ sets l d (words l s m)) where
   kept : (t : ℕ) → t < n → getD ws (s + m + t) 0 ≡ getD l (s + m + t) 0
-  kept t v =
-      ap (λ (k : List ℕ). getD k (s + m + t) 0) e
-      ∙ ⊎-elim (λ (x : d ≤ s). getD-sets-above (words l s m) l d (s + m + t) 0 (omega (arith, length-words l s m)))
-      (λ (x : s + w ≤ d). getD-sets-below (words l s m) l d (s + m + t) 0 (omega arith)) p
+  kept t v = ap (λ (k : List ℕ). getD k (s + m + t) 0) e ∙ getD-sets-above (words l s m) l d (s + m + t) 0 (omega (arith, length-words l s m))
 
-  -- n more, after m
-  pub more-words : sets ws (d + m) (words ws (s + m) n) ≡ sets l d (words l s (m + n))
-  more-words =
+  words-after : sets ws (d + m) (words ws (s + m) n) ≡ sets l d (words l s (m + n))
+  words-after =
       ap (λ (r : List ℕ). sets ws (d + m) r) (words-same ws l (s + m) (s + m) n kept)
       ∙ ap (λ (k : List ℕ). sets k (d + m) (words l (s + m) n)) e
       ∙ ap (λ (k : ℕ). sets (sets l d (words l s m)) (d + k) (words l (s + m) n)) (sym (length-words l s m))
@@ -122,7 +121,7 @@ module _ (l ws : List ℕ) (s d a k b n : ℕ) (p : s ≤ d) (q : b ≡ a + k) (
   ahead : (t : ℕ) → t < k → getD ws (s + a + t) 0 ≡ getD l (s + a + t) 0
   ahead t v = ap (λ (r : List ℕ). getD r (s + a + t) 0) e ∙ getD-sets-below (words l (s + b) n) l (d + b) (s + a + t) 0 (omega arith)
 
-  pub words-before : sets ws (d + a) (words ws (s + a) k) ≡ sets l (d + a) (words l (s + a) (k + n))
+  words-before : sets ws (d + a) (words ws (s + a) k) ≡ sets l (d + a) (words l (s + a) (k + n))
   words-before =
       let m : d + b ≡ d + a + length (words l (s + a) k) = omega (arith, length-words l (s + a) k) in
       let o : s + b ≡ s + a + k = omega arith in
@@ -137,3 +136,69 @@ module _ (l ws : List ℕ) (s d a k b n : ℕ) (p : s ≤ d) (q : b ≡ a + k) (
 pub one-word : (l : List ℕ) (s d : ℕ) → set l d (getD l s 0) ≡ sets l d (words l s 1)
 unfolding words
 one-word l s d = rw (add-zero s)
+
+-- Words moved a part at a time, either way.
+
+-- where those begin that are moved, when `done` of n things at i are
+abbrev pub low : (up : Bool) → (i n done : ℕ) → ℕ
+low true i n done = i + (n - done)
+low false i n done = i
+
+-- so far `done` of n words are moved from s to d
+abbrev pub wordsSo : (up : Bool) → List ℕ → (s d n done : ℕ) → List ℕ
+wordsSo up l s d n done = sets l (low up d n done) (words l (low up s n done) done)
+
+-- none, the next k, and all
+pub words-none : (up : Bool) (l : List ℕ) (s d n : ℕ) → l ≡ wordsSo up l s d n 0
+unfolding words
+words-none up l s d n = refl
+
+words-next : (up : Bool) (l ws : List ℕ) (s d n done k : ℕ) → Way up s d → done + k ≤ n → ws ≡ wordsSo up l s d n done
+    → sets ws (d + place up done k n) (words ws (s + place up done k n) k) ≡ wordsSo up l s d n (done + k)
+words-next true l ws s d n done k way h e =
+    let at : n - done - k ≡ n - (done + k) = omega arith in
+    let count : k + done ≡ done + k = omega arith in
+    words-before l ws s d (n - done - k) k (n - done) done way (omega arith) e ∙ (λ t. sets l (d + at t) (words l (s + at t) (count t)))
+words-next false l ws s d n done k way h e = words-after l ws s d done k way e
+
+-- the next k at the place x; of parts of c words, part j
+pub words-part : (up : Bool) (l ws : List ℕ) (s d n done k x : ℕ) → Way up s d → done + k ≤ n → x ≡ place up done k n → ws ≡ wordsSo up l s d n done
+    → sets ws (d + x) (words ws (s + x) k) ≡ wordsSo up l s d n (done + k)
+words-part up l ws s d n done k x way h q e = ap (λ (y : ℕ). sets ws (d + y) (words ws (s + y) k)) q ∙ words-next up l ws s d n done k way h e
+
+pub words-turn : (up : Bool) (l ws : List ℕ) (s d n c j x : ℕ) → Way up s d → c * j + c ≤ n → x ≡ place up (c * j) c n → ws ≡ wordsSo up l s d n (c * j)
+    → sets ws (d + x) (words ws (s + x) c) ≡ wordsSo up l s d n (c * (j + 1))
+words-turn up l ws s d n c j x way h q e =
+    let more : c * j + c ≡ c * (j + 1) = omega arith in
+    words-part up l ws s d n (c * j) c x way h q e ∙ ap (wordsSo up l s d n) more
+
+pub words-all : (up : Bool) (l : List ℕ) (s d n : ℕ) → wordsSo up l s d n n ≡ sets l d (words l s n)
+words-all true l s d n =
+    let a : d + (n - n) ≡ d = omega arith in
+    let b : s + (n - n) ≡ s = omega arith in
+    λ t. sets l (a t) (words l (b t) n)
+words-all false l s d n = refl
+
+pub length-so : (up : Bool) (l ws : List ℕ) (s d n done : ℕ) → ws ≡ wordsSo up l s d n done → length ws ≡ length l
+length-so up l ws s d n done e = ap length e ∙ length-sets l (low up d n done) (words l (low up s n done) done)
+
+-- Ways and places.
+
+pub way-on : (up : Bool) (s d k : ℕ) → Way up s d → Way up (s + k) (d + k)
+way-on true s d k h = omega arith
+way-on false s d k h = omega arith
+
+pub way-times : (up : Bool) (w s d : ℕ) → Way up s d → Way up (w * s) (w * d)
+way-times true w s d h = mul-le-mul-left w h
+way-times false w s d h = mul-le-mul-left w h
+
+pub way-of : (s d : ℕ) → Way (ltb s d) s d
+way-of s d = go (ltb s d) refl
+  where
+    go : (b : Bool) → ltb s d ≡ b → Way b s d
+    go true e = omega (arith, ltb-true s d e)
+    go false e = ltb-false s d e
+
+pub place-le : (up : Bool) (done k n : ℕ) → done + k ≤ n → place up done k n + k ≤ n
+place-le true done k n h = omega arith
+place-le false done k n h = h

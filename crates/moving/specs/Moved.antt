@@ -1,10 +1,25 @@
 -- Records moved within their buffer.
 -- Assumes nothing.
-use Prim.Native.Nat.{ℕ, _+_, _-_, _*_, _%_}
+use Prim.Native.Nat.{ℕ, _+_, _-_, _*_, _%_, _≤_}
+use mathlib.Core.Bool.{Bool, true, false}
 use mathlib.Core.List.{List, [], _∷_}
 use lib.ListN.{getD}
 use Rattle.laws.specs.Blocks.{blocks, table}
 use Rattle.rules.specs.Records.{widthWords, lineSize, tokenSize}
+
+-- Things moved one after the other so that none is written over before it is moved: from the first on, or upwards from the last on.
+
+-- the way from one place to another
+abbrev pub Way : (up : Bool) → (from to : ℕ) → Type 0
+Way true from to = from ≤ to
+Way false from to = to ≤ from
+
+-- where the next k of n things begin, after so many of them
+abbrev pub place : (up : Bool) → (done k n : ℕ) → ℕ
+place true done k n = n - done - k
+place false done k n = done
+
+-- Words and records moved.
 
 -- how many values a word has
 abbrev pub wordValues : ℕ
@@ -38,3 +53,12 @@ movedLine d e ws i = shifted d (getD ws i 0) ∷ shifted e (getD ws (i + 1) 0) �
 -- n line records from record `from` on, starts moved from p to p′ and token numbers from k to k′
 unfoldable pub movedLines : (p p′ k k′ : ℕ) → List ℕ → (from n : ℕ) → List ℕ
 movedLines p p′ k k′ ws from n = blocks (λ j. movedLine (distance p p′) (distance k k′) ws (lineSize * (from + j))) 0 n
+
+-- a record of either kind: its size, and the record at index i moved
+abbrev pub sizeOf : (line : Bool) → ℕ
+sizeOf true = lineSize
+sizeOf false = tokenSize
+
+abbrev pub movedRecord : (line : Bool) → (d e : ℕ) → List ℕ → (i : ℕ) → List ℕ
+movedRecord true = movedLine
+movedRecord false = movedToken

@@ -1,12 +1,13 @@
 // The writes of an accepted edit: bytes copied between text and spare, records moved within their buffer.
 ghost use mathlib.Core.Path.{_≡_};
-ghost use Prim.Native.Nat.{_+_, _-_, _*_, _≤_};
+ghost use Prim.Native.Nat.{_+_, _-_, _*_, _≤_, _<_};
 ghost use lib.ListN.{length, take, drop};
 ghost use lib.Seq.{sets};
 ghost use Rattle.laws.specs.Blocks.{blocks};
 ghost use Rattle.rules.specs.Lists.{overwrite};
+ghost use Rattle.rules.specs.Records.{lineSize, tokenSize};
 ghost use Rattle.rules.specs.StopRule.{edited};
-ghost use Rattle.moving.specs.Moved.{distance, words, movedToken, movedTokens, movedLine, movedLines};
+ghost use Rattle.moving.specs.Moved.{Way, place, distance, words, sizeOf, movedToken, movedTokens, movedLine, movedLines, movedRecord};
 
 // All of src at byte `at` of dst.
 pub fn copy_bytes(dst: &mut [u8], at: usize, src: &[u8])
@@ -60,33 +61,79 @@ fn move_four(ws: &mut [u32], src: usize, dst: usize)
     ws[dst + 3] = z;
 }
 
-// 4n words down, the first four first.
-fn fours_down(ws: &mut [u32], from: usize, to: usize, n: usize)
-    requires { ⌜ (to ≤ from) × (from + 4 * n ≤ length (now ws)) ⌝ }
+// Where a part of k begins, when n things are moved one after the other, from the first on or, upwards, from the last on, and `done` of
+// them are moved.
+fn place_of(up: bool, done: usize, k: usize, n: usize) -> usize
+    requires { ⌜ done + k ≤ n ⌝ }
+    ensures { λ r. ⌜ r ≡ place up done k n ⌝ }
+{
+    if up {
+        return n - done - k;
+    }
+    done
+}
+
+// 4n words, in fours.
+fn move_fours(ws: &mut [u32], up: bool, from: usize, to: usize, n: usize)
+    requires { ⌜ (from + 4 * n ≤ length (now ws)) × (to + 4 * n ≤ length (now ws)) ⌝ }
+    requires { ⌜ Way up from to ⌝ }
     ensures { λ _. ⌜ now (ws .exit) ≡ sets (now (ws .entry)) to (words (now (ws .entry)) from (4 * n)) ⌝ }
 {
     let mut j: usize = 0;
     while j < n {
-        move_four(ws, from + 4 * j, to + 4 * j);
+        let at = place_of(up, 4 * j, 4, 4 * n);
+        move_four(ws, from + at, to + at);
         j += 1;
     }
 }
 
-// 4n words up, the last four first.
-fn fours_up(ws: &mut [u32], from: usize, to: usize, n: usize)
-    requires { ⌜ (from ≤ to) × (to + 4 * n ≤ length (now ws)) ⌝ }
-    ensures { λ _. ⌜ now (ws .exit) ≡ sets (now (ws .entry)) to (words (now (ws .entry)) from (4 * n)) ⌝ }
+// 32n words, in eights of fours, which are compiled to one run of moves each.
+fn move_eights(ws: &mut [u32], up: bool, from: usize, to: usize, n: usize)
+    requires { ⌜ (from + 32 * n ≤ length (now ws)) × (to + 32 * n ≤ length (now ws)) ⌝ }
+    requires { ⌜ Way up from to ⌝ }
+    ensures { λ _. ⌜ now (ws .exit) ≡ sets (now (ws .entry)) to (words (now (ws .entry)) from (32 * n)) ⌝ }
 {
-    let mut j = n;
-    while 0 < j {
-        j -= 1;
-        move_four(ws, from + 4 * j, to + 4 * j);
+    let mut j: usize = 0;
+    while j < n {
+        let at = place_of(up, 32 * j, 32, 32 * n);
+        move_fours(ws, up, from + at, to + at, 8);
+        j += 1;
     }
+}
+
+// n words, one at a time.
+fn move_each(ws: &mut [u32], up: bool, from: usize, to: usize, n: usize)
+    requires { ⌜ (from + n ≤ length (now ws)) × (to + n ≤ length (now ws)) ⌝ }
+    requires { ⌜ Way up from to ⌝ }
+    ensures { λ _. ⌜ now (ws .exit) ≡ sets (now (ws .entry)) to (words (now (ws .entry)) from n) ⌝ }
+{
+    let mut done: usize = 0;
+    while done < n {
+        let at = place_of(up, done, 1, n);
+        ws[to + at] = ws[from + at];
+        done += 1;
+    }
+}
+
+// n words: most of them in eights of fours, then in fours, the last ones one at a time.
+fn move_words(ws: &mut [u32], up: bool, from: usize, to: usize, n: usize)
+    requires { ⌜ (from + n ≤ length (now ws)) × (to + n ≤ length (now ws)) ⌝ }
+    requires { ⌜ Way up from to ⌝ }
+    ensures { λ _. ⌜ now (ws .exit) ≡ sets (now (ws .entry)) to (words (now (ws .entry)) from n) ⌝ }
+{
+    let k = n / 32;
+    let a = place_of(up, 0, 32 * k, n);
+    move_eights(ws, up, from + a, to + a, k);
+    let m = n % 32 / 4;
+    let b = place_of(up, 32 * k, 4 * m, n);
+    move_fours(ws, up, from + b, to + b, m);
+    let c = place_of(up, 32 * k + 4 * m, n % 4, n);
+    move_each(ws, up, from + c, to + c, n % 4);
 }
 
 // The token record at word `at`: its position moved by d, its line by e.
 fn shift_token(tokens: &mut [u32], at: usize, d: u32, e: u32)
-    requires { ⌜ at + 5 ≤ length (now tokens) ⌝ }
+    requires { ⌜ at + tokenSize ≤ length (now tokens) ⌝ }
     ensures { λ _. ⌜ now (tokens .exit) ≡ sets (now (tokens .entry)) at (movedToken d e (now (tokens .entry)) at) ⌝ }
 {
     let position = std::num::wrapping_add_u32(tokens[at + 1], d);
@@ -95,80 +142,106 @@ fn shift_token(tokens: &mut [u32], at: usize, d: u32, e: u32)
     tokens[at + 3] = line;
 }
 
-// Token record `from` to `to`, moved by the same.
-fn move_token(tokens: &mut [u32], from: usize, to: usize, d: u32, e: u32)
-    requires { ⌜ (5 * from + 5 ≤ length (now tokens)) × (5 * to + 5 ≤ length (now tokens)) ⌝ }
-    ensures { λ _. ⌜ now (tokens .exit) ≡ sets (now (tokens .entry)) (5 * to) (movedToken d e (now (tokens .entry)) (5 * from)) ⌝ }
+// The line record at word `at`: its start moved by d, its first token by e.
+fn shift_line(lines: &mut [u32], at: usize, d: u32, e: u32)
+    requires { ⌜ at + lineSize ≤ length (now lines) ⌝ }
+    ensures { λ _. ⌜ now (lines .exit) ≡ sets (now (lines .entry)) at (movedLine d e (now (lines .entry)) at) ⌝ }
 {
-    let src = 5 * from;
-    let dst = 5 * to;
-    move_four(tokens, src, dst);
-    tokens[dst + 4] = tokens[src + 4];
-    shift_token(tokens, dst, d, e);
+    let start = std::num::wrapping_add_u32(lines[at], d);
+    let first = std::num::wrapping_add_u32(lines[at + 1], e);
+    lines[at] = start;
+    lines[at + 1] = first;
 }
 
-// `count` token records where they stand.
-fn tokens_still(tokens: &mut [u32], from: usize, count: usize, d: u32, e: u32)
-    requires { ⌜ 5 * (from + count) ≤ length (now tokens) ⌝ }
-    ensures { λ _. ⌜ now (tokens .exit) ≡ sets (now (tokens .entry)) (5 * from) (blocks (λ j. movedToken d e (now (tokens .entry)) (5 * (from + j))) 0 count) ⌝ }
+// The record at word `at`, one of a line or one of a token, moved by d and e.
+fn shift_record(ws: &mut [u32], line: bool, at: usize, d: u32, e: u32)
+    requires { ⌜ at + sizeOf line ≤ length (now ws) ⌝ }
+    ensures { λ _. ⌜ now (ws .exit) ≡ sets (now (ws .entry)) at (movedRecord line d e (now (ws .entry)) at) ⌝ }
+{
+    if line {
+        shift_line(ws, at, d, e);
+        return;
+    }
+    shift_token(ws, at, d, e);
+}
+
+// `count` records where they stand.
+fn shift_records(ws: &mut [u32], line: bool, size: usize, from: usize, count: usize, d: u32, e: u32)
+    requires { ⌜ (size ≡ sizeOf line) × (size * (from + count) ≤ length (now ws)) ⌝ }
+    ensures { λ _. ⌜ now (ws .exit) ≡ sets (now (ws .entry)) (size * from) (blocks (λ j. movedRecord line d e (now (ws .entry)) (size * (from + j))) 0 count) ⌝ }
 {
     let mut j: usize = 0;
     while j < count {
-        shift_token(tokens, 5 * (from + j), d, e);
+        shift_record(ws, line, size * (from + j), d, e);
         j += 1;
     }
 }
 
-// Down, one record at a time, the first one first.
-fn each_token_down(tokens: &mut [u32], from: usize, to: usize, count: usize, d: u32, e: u32)
-    requires { ⌜ (to ≤ from) × (5 * (from + count) ≤ length (now tokens)) ⌝ }
-    ensures { λ _. ⌜ now (tokens .exit) ≡ sets (now (tokens .entry)) (5 * to) (blocks (λ j. movedToken d e (now (tokens .entry)) (5 * (from + j))) 0 count) ⌝ }
+// How many of n records are moved at a time.
+fn batch(n: usize) -> usize
+    ensures { λ r. ⌜ (r ≤ n) × (0 < n → 0 < r) ⌝ }
 {
-    let mut j: usize = 0;
-    while j < count {
-        move_token(tokens, from + j, to + j, d, e);
-        j += 1;
+    if n < 128 {
+        return n;
+    }
+    128
+}
+
+// `count` records from `from` to `to`, some at a time: their words are moved, and then they are shifted where they stand.
+fn carry_records(
+    ws: &mut [u32],
+    line: bool,
+    size: usize,
+    up: bool,
+    from: usize,
+    to: usize,
+    count: usize,
+    d: u32,
+    e: u32,
+)
+    requires { ⌜ (size ≡ sizeOf line) × Way up from to ⌝ }
+    requires { ⌜ (size * (from + count) ≤ length (now ws)) × (size * (to + count) ≤ length (now ws)) ⌝ }
+    ensures { λ _. ⌜ now (ws .exit) ≡ sets (now (ws .entry)) (size * to) (blocks (λ j. movedRecord line d e (now (ws .entry)) (size * (from + j))) 0 count) ⌝ }
+{
+    let mut done: usize = 0;
+    while done < count {
+        let n = batch(count - done);
+        let j = place_of(up, done, n, count);
+        move_words(ws, up, size * (from + j), size * (to + j), size * n);
+        shift_records(ws, line, size, to + j, n, d, e);
+        done += n;
     }
 }
 
-// Up, one record at a time, the last one first.
-fn each_token_up(tokens: &mut [u32], from: usize, to: usize, count: usize, d: u32, e: u32)
-    requires { ⌜ (from ≤ to) × (5 * (to + count) ≤ length (now tokens)) ⌝ }
-    ensures { λ _. ⌜ now (tokens .exit) ≡ sets (now (tokens .entry)) (5 * to) (blocks (λ j. movedToken d e (now (tokens .entry)) (5 * (from + j))) 0 count) ⌝ }
+// `count` records from `from` to `to`, which may overlap, moved from the bases p and q to p2 and q2.
+fn move_records(
+    ws: &mut [u32],
+    line: bool,
+    size: usize,
+    from: usize,
+    to: usize,
+    count: usize,
+    p: u32,
+    p2: u32,
+    q: u32,
+    q2: u32,
+)
+    requires { ⌜ size ≡ sizeOf line ⌝ }
+    requires { ⌜ (size * (from + count) ≤ length (now ws)) × (size * (to + count) ≤ length (now ws)) ⌝ }
+    ensures { λ _. ⌜ now (ws .exit) ≡ sets (now (ws .entry)) (size * to) (blocks (λ j. movedRecord line (distance p p2) (distance q q2) (now (ws .entry)) (size * (from + j))) 0 count) ⌝ }
 {
-    let mut j = count;
-    while 0 < j {
-        j -= 1;
-        move_token(tokens, from + j, to + j, d, e);
+    let d = distance_of(p, p2);
+    let e = distance_of(q, q2);
+    if from != to {
+        carry_records(ws, line, size, from < to, from, to, count, d, e);
+        return;
     }
-}
-
-// Down, 16 records at a time, the first ones first: their 80 words in fours, which are then shifted where they stand.
-fn tokens_down(tokens: &mut [u32], from: usize, to: usize, count: usize, d: u32, e: u32)
-    requires { ⌜ (to ≤ from) × (5 * (from + count) ≤ length (now tokens)) ⌝ }
-    ensures { λ _. ⌜ now (tokens .exit) ≡ sets (now (tokens .entry)) (5 * to) (blocks (λ j. movedToken d e (now (tokens .entry)) (5 * (from + j))) 0 count) ⌝ }
-{
-    let mut j: usize = 0;
-    while 16 <= count - j {
-        fours_down(tokens, 5 * (from + j), 5 * (to + j), 20);
-        tokens_still(tokens, to + j, 16, d, e);
-        j += 16;
+    if d == 0 {
+        if e == 0 {
+            return;
+        }
     }
-    each_token_down(tokens, from + j, to + j, count - j, d, e);
-}
-
-// Up, 16 records at a time, the last ones first.
-fn tokens_up(tokens: &mut [u32], from: usize, to: usize, count: usize, d: u32, e: u32)
-    requires { ⌜ (from ≤ to) × (5 * (to + count) ≤ length (now tokens)) ⌝ }
-    ensures { λ _. ⌜ now (tokens .exit) ≡ sets (now (tokens .entry)) (5 * to) (blocks (λ j. movedToken d e (now (tokens .entry)) (5 * (from + j))) 0 count) ⌝ }
-{
-    let mut j = count;
-    while 16 <= j {
-        j -= 16;
-        fours_up(tokens, 5 * (from + j), 5 * (to + j), 20);
-        tokens_still(tokens, to + j, 16, d, e);
-    }
-    each_token_up(tokens, from, to, j, d, e);
+    shift_records(ws, line, size, from, count, d, e);
 }
 
 // `count` token records from `from` to `to`, which may overlap: positions from p to p2, lines from l to l2.
@@ -182,88 +255,10 @@ pub fn move_tokens(
     l: u32,
     l2: u32,
 )
-    requires { ⌜ (5 * (from + count) ≤ length (now tokens)) × (5 * (to + count) ≤ length (now tokens)) ⌝ }
-    ensures { λ _. ⌜ now (tokens .exit) ≡ sets (now (tokens .entry)) (5 * to) (movedTokens p p2 l l2 (now (tokens .entry)) from count) ⌝ }
+    requires { ⌜ (tokenSize * (from + count) ≤ length (now tokens)) × (tokenSize * (to + count) ≤ length (now tokens)) ⌝ }
+    ensures { λ _. ⌜ now (tokens .exit) ≡ sets (now (tokens .entry)) (tokenSize * to) (movedTokens p p2 l l2 (now (tokens .entry)) from count) ⌝ }
 {
-    let d = distance_of(p, p2);
-    let e = distance_of(l, l2);
-    if to < from {
-        tokens_down(tokens, from, to, count, d, e);
-        return;
-    }
-    if from < to {
-        tokens_up(tokens, from, to, count, d, e);
-        return;
-    }
-    if d == 0 {
-        if e == 0 {
-            return;
-        }
-    }
-    tokens_still(tokens, from, count, d, e);
-}
-
-// The line record at word `at`: its start moved by d, its first token by e.
-fn shift_line(lines: &mut [u32], at: usize, d: u32, e: u32)
-    requires { ⌜ at + 21 ≤ length (now lines) ⌝ }
-    ensures { λ _. ⌜ now (lines .exit) ≡ sets (now (lines .entry)) at (movedLine d e (now (lines .entry)) at) ⌝ }
-{
-    let start = std::num::wrapping_add_u32(lines[at], d);
-    let first = std::num::wrapping_add_u32(lines[at + 1], e);
-    lines[at] = start;
-    lines[at + 1] = first;
-}
-
-// Line record `from` to `to`, moved by the same.
-fn move_line(lines: &mut [u32], from: usize, to: usize, d: u32, e: u32)
-    requires { ⌜ (21 * from + 21 ≤ length (now lines)) × (21 * to + 21 ≤ length (now lines)) ⌝ }
-    ensures { λ _. ⌜ now (lines .exit) ≡ sets (now (lines .entry)) (21 * to) (movedLine d e (now (lines .entry)) (21 * from)) ⌝ }
-{
-    let src = 21 * from;
-    let dst = 21 * to;
-    move_four(lines, src, dst);
-    move_four(lines, src + 4, dst + 4);
-    move_four(lines, src + 8, dst + 8);
-    move_four(lines, src + 12, dst + 12);
-    move_four(lines, src + 16, dst + 16);
-    lines[dst + 20] = lines[src + 20];
-    shift_line(lines, dst, d, e);
-}
-
-// `count` line records where they stand.
-fn lines_still(lines: &mut [u32], from: usize, count: usize, d: u32, e: u32)
-    requires { ⌜ 21 * (from + count) ≤ length (now lines) ⌝ }
-    ensures { λ _. ⌜ now (lines .exit) ≡ sets (now (lines .entry)) (21 * from) (blocks (λ j. movedLine d e (now (lines .entry)) (21 * (from + j))) 0 count) ⌝ }
-{
-    let mut j: usize = 0;
-    while j < count {
-        shift_line(lines, 21 * (from + j), d, e);
-        j += 1;
-    }
-}
-
-// Down, the first record first.
-fn lines_down(lines: &mut [u32], from: usize, to: usize, count: usize, d: u32, e: u32)
-    requires { ⌜ (to ≤ from) × (21 * (from + count) ≤ length (now lines)) ⌝ }
-    ensures { λ _. ⌜ now (lines .exit) ≡ sets (now (lines .entry)) (21 * to) (blocks (λ j. movedLine d e (now (lines .entry)) (21 * (from + j))) 0 count) ⌝ }
-{
-    let mut j: usize = 0;
-    while j < count {
-        move_line(lines, from + j, to + j, d, e);
-        j += 1;
-    }
-}
-
-// Up, the last record first.
-fn lines_up(lines: &mut [u32], from: usize, to: usize, count: usize, d: u32, e: u32)
-    requires { ⌜ (from ≤ to) × (21 * (to + count) ≤ length (now lines)) ⌝ }
-    ensures { λ _. ⌜ now (lines .exit) ≡ sets (now (lines .entry)) (21 * to) (blocks (λ j. movedLine d e (now (lines .entry)) (21 * (from + j))) 0 count) ⌝ }
-{
-    let mut j = count;
-    while 0 < j {
-        j -= 1;
-        move_line(lines, from + j, to + j, d, e);
-    }
+    move_records(tokens, false, records::TOKEN, from, to, count, p, p2, l, l2);
 }
 
 // `count` line records from `from` to `to`, which may overlap: starts from p to p2, first tokens from k to k2.
@@ -277,23 +272,8 @@ pub fn move_lines(
     k: u32,
     k2: u32,
 )
-    requires { ⌜ (21 * (from + count) ≤ length (now lines)) × (21 * (to + count) ≤ length (now lines)) ⌝ }
-    ensures { λ _. ⌜ now (lines .exit) ≡ sets (now (lines .entry)) (21 * to) (movedLines p p2 k k2 (now (lines .entry)) from count) ⌝ }
+    requires { ⌜ (lineSize * (from + count) ≤ length (now lines)) × (lineSize * (to + count) ≤ length (now lines)) ⌝ }
+    ensures { λ _. ⌜ now (lines .exit) ≡ sets (now (lines .entry)) (lineSize * to) (movedLines p p2 k k2 (now (lines .entry)) from count) ⌝ }
 {
-    let d = distance_of(p, p2);
-    let e = distance_of(k, k2);
-    if to < from {
-        lines_down(lines, from, to, count, d, e);
-        return;
-    }
-    if from < to {
-        lines_up(lines, from, to, count, d, e);
-        return;
-    }
-    if d == 0 {
-        if e == 0 {
-            return;
-        }
-    }
-    lines_still(lines, from, count, d, e);
+    move_records(lines, true, records::LINE, from, to, count, p, p2, k, k2);
 }
