@@ -14,7 +14,9 @@ pub fn read(text: &[u8], lines: &mut [u32], tokens: &mut [u32]) -> Option<[u32; 
     if text.len() > LIMIT {
         return None;
     }
-    std::str::from_utf8(text).ok()?;
+    if !text.is_ascii() {
+        std::str::from_utf8(text).ok()?;
+    }
     let (m, k) = Walk::<false>::over(text, &mut [], &mut [])?;
     let lines = lines.as_chunks_mut().0.get_mut(..m + 1)?;
     let tokens = tokens.as_chunks_mut().0.get_mut(..k)?;
@@ -191,7 +193,9 @@ fn eight(text: &[u8], at: usize) -> u64 {
 #[cold]
 fn last_bytes(text: &[u8], at: usize) -> u64 {
     let rest = text.get(at..).unwrap_or(&[]);
-    rest.iter().rev().fold(0, |word, &byte| word << 8 | byte as u64)
+    rest.iter()
+        .rev()
+        .fold(0, |word, &byte| word << 8 | byte as u64)
 }
 
 /// The high bits of the bytes from `low` to `high`, where no byte is above 7F.
@@ -241,9 +245,18 @@ fn find(text: &[u8], mut at: usize, found: impl Fn(u64) -> u64) -> usize {
     text.len()
 }
 
-/// Where the line ends in which `at` stands.
+/// Where the line ends in which `at` stands. Thirty-two bytes are compared at once, for which the compiler takes vectors.
 #[inline(always)]
-fn line_end(text: &[u8], at: usize) -> usize {
+fn line_end(text: &[u8], mut at: usize) -> usize {
+    while let Some(bytes) = text.get(at..at + 32) {
+        if bytes
+            .iter()
+            .fold(false, |found, byte| found | (*byte == b'\n'))
+        {
+            break;
+        }
+        at += 32;
+    }
     find(text, at, |bytes| equal(bytes, b'\n'))
 }
 
@@ -265,13 +278,20 @@ fn decimals_end(text: &[u8], at: usize) -> usize {
     find(text, at, |bytes| decimals(bytes) ^ HIGH)
 }
 
-/// Where the number at `at` ends.
+/// Where the number at `at` ends. Whole and fraction are mostly told from the same eight bytes.
 #[inline(always)]
 fn number_end(text: &[u8], at: usize) -> usize {
-    let mut end = decimals_end(text, at);
+    let others = decimals(eight(text, at)) ^ HIGH;
+    let mut end = match others {
+        0 => decimals_end(text, at + 8),
+        _ => at + below(others),
+    };
     let mut after = eight(text, end);
     if after as u8 == b'.' && ((after >> 8) as u8).is_ascii_digit() {
-        end = decimals_end(text, end + 1);
+        end = match others & others.wrapping_sub(1) {
+            0 => decimals_end(text, end + 1),
+            more => at + below(more),
+        };
         after = eight(text, end);
     }
     if CLASS[after as usize & 0xff] != Class::Letter {
@@ -306,19 +326,16 @@ fn literal_size(rest: &[u8]) -> Option<usize> {
     (*rest.get(size)? == b'\'').then_some(size + 1)
 }
 
-/// The indent's width and the first byte that is no blank, in a line that begins with these spaces and then a tab or a CR.
+/// The indent's width and the first byte that is no blank, in a line with so many spaces before a tab or a CR at `at`.
 #[cold]
 fn margin(text: &[u8], spaces: usize, at: usize) -> (usize, usize) {
-    let mut width = spaces;
-    let mut first = at;
-    while let Some(b' ' | b'\t') = text.get(first) {
-        width += if text[first] == b'\t' { 4 } else { 1 };
-        first += 1;
-    }
-    while let Some(b' ' | b'\t' | b'\r') = text.get(first) {
-        first += 1;
-    }
-    (width, first)
+    let blanks = text[at..]
+        .iter()
+        .take_while(|byte| CLASS[**byte as usize] == Class::Blank);
+    let blanks = &text[at..at + blanks.count()];
+    let indent = blanks.split(|byte| *byte == b'\r').next().unwrap_or(&[]);
+    let tabs = indent.iter().filter(|byte| **byte == b'\t').count();
+    (spaces + indent.len() + 3 * tabs, at + blanks.len())
 }
 
 /// One walk over a text, which counts, or writes too.
@@ -342,7 +359,11 @@ struct Walk<'a, const WRITE: bool> {
 impl<'a, const WRITE: bool> Walk<'a, WRITE> {
     /// How many lines and tokens a text has.
     #[inline(never)]
-    fn over(text: &'a [u8], lines: &'a mut [[u32; 21]], tokens: &'a mut [[u32; 5]]) -> Option<(usize, usize)> {
+    fn over(
+        text: &'a [u8],
+        lines: &'a mut [[u32; 21]],
+        tokens: &'a mut [[u32; 5]],
+    ) -> Option<(usize, usize)> {
         let mut walk = Self {
             text,
             lines,
@@ -390,7 +411,13 @@ impl<'a, const WRITE: bool> Walk<'a, WRITE> {
     fn token(&mut self, kind: TokenKind, at: usize, size: usize) {
         if WRITE {
             let column = (at - self.start) as u32 + 1;
-            self.tokens[self.k] = [kind as u32, at as u32, size as u32, self.m as u32 + 1, column];
+            self.tokens[self.k] = [
+                kind as u32,
+                at as u32,
+                size as u32,
+                self.m as u32 + 1,
+                column,
+            ];
         }
         self.k += 1;
     }
@@ -399,10 +426,13 @@ impl<'a, const WRITE: bool> Walk<'a, WRITE> {
     #[inline(always)]
     fn indent(&mut self, arrow: bool) -> Option<usize> {
         let text = self.text;
-        let mut first = find(text, self.start, |bytes| {
-            let other = bytes ^ all(b' ');
-            ((other & !HIGH) + !HIGH | other) & HIGH
-        });
+        let mut first = self.start;
+        if text[first] == b' ' {
+            first = find(text, first + 1, |bytes| {
+                let other = bytes ^ all(b' ');
+                ((other & !HIGH) + !HIGH | other) & HIGH
+            });
+        }
         let mut width = first - self.start;
         if let Some(b'\t' | b'\r') = text.get(first) {
             (width, first) = margin(text, width, first);
@@ -432,7 +462,10 @@ impl<'a, const WRITE: bool> Walk<'a, WRITE> {
         while self.innermost > width {
             self.levels -= 1;
             self.widths[self.levels] = 0;
-            self.innermost = self.levels.checked_sub(1).map_or(0, |last| self.widths[last]);
+            self.innermost = self
+                .levels
+                .checked_sub(1)
+                .map_or(0, |last| self.widths[last]);
             self.token(Dedent, self.start, 0);
         }
         (self.innermost == width).then_some(())
@@ -452,8 +485,11 @@ impl<'a, const WRITE: bool> Walk<'a, WRITE> {
                 Class::Hash => return Some(line_end(text, at)),
                 Class::Letter => self.word(at)?,
                 Class::Digit => (Num, number_end(text, at)),
+                Class::Quote if text.get(at + 1) == Some(&b'"') => (String, at + 2),
                 Class::Quote => {
-                    let end = find(text, at + 1, |bytes| equal(bytes, b'"') | equal(bytes, b'\n'));
+                    let end = find(text, at + 1, |bytes| {
+                        equal(bytes, b'"') | equal(bytes, b'\n')
+                    });
                     (*text.get(end)? == b'"').then_some((String, end + 1))?
                 }
                 Class::Single => {
@@ -462,11 +498,11 @@ impl<'a, const WRITE: bool> Walk<'a, WRITE> {
                     (SINGLE[byte as usize], at + 1)
                 }
                 Class::Longer => {
-                    let next = |more: usize| text.get(at + more).copied().unwrap_or(0);
-                    if byte == b'/' && next(1) == b'/' {
+                    let [_, second, third, ..] = eight(text, at).to_le_bytes();
+                    if byte == b'/' && second == b'/' {
                         return Some(line_end(text, at));
                     }
-                    let (kind, size) = sign(byte, next(1), next(2))?;
+                    let (kind, size) = sign(byte, second, third)?;
                     if kind == Implies {
                         self.behind_arrow = self.k + 1;
                     }
