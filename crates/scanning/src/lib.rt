@@ -22,7 +22,7 @@ fn put_labelled(out: &mut [u8], at: usize, label: &[u8], n: u32) -> usize
 
 // The row of a token, by its words.
 fn put_row(out: &mut [u8], at: usize, words: &[u32]) -> usize
-    requires { ⌜ (5 ≤ length (now words)) × Room true (now out) at (tokenRow (now words) ∷ []) ⌝ }
+    requires { ⌜ (tokenSize ≤ length (now words)) × Room true (now out) at (tokenRow (now words) ∷ []) ⌝ }
     ensures { λ r. ⌜ Put true (now (out .entry)) at (tokenRow (now (words .entry)) ∷ []) (now (out .exit)) r ⌝ }
 {
     let a = put_labelled(out, at, b"(tok ", words[0]);

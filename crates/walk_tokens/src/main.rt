@@ -81,7 +81,7 @@ fn print_refusals<'a>(
 // A token of no bytes is granted, and the one after it is refused.
 fn print_empty(names: &[u8]) {
     let lines: [u32; records::LINE] = [0; records::LINE];
-    let words: [u32; 5] = [45, 0, 0, 1, 1];
+    let words: [u32; records::TOKEN] = [45, 0, 0, 1, 1];
     print_text(0, 0, 1, b"", &lines, &words, 0, names);
     print_text(0, 0, 1, b"", &lines, &words, 1, names);
 }
@@ -91,7 +91,7 @@ fn print_page(n: usize, m: usize, k: usize, text: &[u8], lines: &[u32], words: &
     requires { ⌜ (n ≤ 4_294_967_295) × ((m ≤ 4_294_967_295) × ((k ≤ 4_294_967_295) × (tokenSize * k ≤ length (now words)))) ⌝ }
 {
     let names = b"<INDENT><DEDENT>\\n";
-    let front = &words[..5 * k];
+    let front = &words[..records::TOKEN * k];
     print_tokens(n as u32, m as u32, k as u32, text, lines, front, names);
     print_refusals(n as u32, m as u32, k as u32, text, lines, front, names);
     print_empty(names);
