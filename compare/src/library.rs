@@ -6,7 +6,7 @@ mod lexpage;
 
 use std::cell::Cell;
 
-/// The nine functions, in the order of `lexpage.h`.
+/// The functions, in the order of `lexpage.h`.
 #[derive(Debug, Clone, Copy, PartialEq, Eq)]
 pub enum Call {
     Fresh,
