@@ -6,6 +6,7 @@ use mathlib.Core.Bool.{Bool, true, false}
 use mathlib.Core.List.{List}
 use lib.ListN.{take, drop}
 use Rattle.rules.specs.Lists.{begins}
+use Rattle.rules.specs.Limits.{LineLimits}
 use Rattle.rules.specs.Line.{State, levels, levelsOf, cutsFrom, Halt, lineHalts, readLine}
 use Rattle.rules.specs.Records.{widthWords, tokenSize, tokenWords}
 use Rattle.line.specs.States.{leading}
@@ -14,7 +15,7 @@ use Rattle.line.specs.declared.Lead.{Lead}
 use Rattle.line.specs.declared.LineCuts.{LineCuts}
 use Rattle.line.specs.declared.LineCuts.the-variants.{Ends, Stops}
 use Rattle.line.specs.declared.LineRead.{LineRead}
-use Rattle.line.specs.declared.LineRead.the-variants.{Reads, Fails, TooDeep}
+use Rattle.line.specs.declared.LineRead.the-variants.{Reads, Fails, OverLimit}
 use Rattle.line.proofs.Whole.{line-counted, line-tokens}
 use Rattle.checking.specs.Same.{sameLineIf, differs, agreedIf, agreedOf, LevelsWithin}
 use Rattle.checking.specs.declared.SameLine.{SameLine}
@@ -23,20 +24,20 @@ agreed-of : (b : Bool) (y : LineRead) (widths : List ℕ) → agreedOf (sameLine
 agreed-of true (Reads n s) widths = refl
 agreed-of false (Reads n s) widths = refl
 agreed-of b (Fails f) widths = refl
-agreed-of b TooDeep widths = refl
+agreed-of b (OverLimit number) widths = refl
 
-module _ (st : State) (line : List ℕ) where
+module _ (lim : LineLimits) (st : State) (line : List ℕ) where
   -- the levels at its start are known
-  pub agreed-line : (lead : Lead) (widths : List ℕ) (p number k : ℕ) (tokens : List ℕ) (r : SameLine) → levelsOf 16 st line ≡ levels (leading lead) (take (lead .levels) widths)
+  pub agreed-line : (lead : Lead) (widths : List ℕ) (p number k : ℕ) (tokens : List ℕ) (r : SameLine) → levelsOf lim st line ≡ levels (leading lead) (take (lead .levels) widths)
       → r ≡ sameLineIf (begins (tokenWords p number (tokensOf (wholeLine lead line (cutsFrom 0 0 line)))) (drop (tokenSize * k) tokens)) (lineReadOf lead (lineCutsOf (st .depth) (cutsFrom 0 0 line)))
-      → agreedOf r widths ≡ agreedIf (begins (tokenWords p number (tokensIn (readLine 16 st line))) (drop (tokenSize * k) tokens)) (counted (readLine 16 st line))
+      → agreedOf r widths ≡ agreedIf (begins (tokenWords p number (tokensIn (readLine lim st line))) (drop (tokenSize * k) tokens)) (counted (readLine lim st line))
   agreed-line lead widths p number k tokens r e q =
       ap (λ (x : SameLine). agreedOf x widths) q ∙ agreed-of _ (lineReadOf lead (lineCutsOf (st .depth) (cutsFrom 0 0 line))) widths
-      ∙ (λ i. agreedIf (begins (tokenWords p number (line-tokens st line lead widths e i)) (drop (tokenSize * k) tokens))
-      (line-counted st line lead widths e (lineReadOf lead (lineCutsOf (st .depth) (cutsFrom 0 0 line))) refl i))
+      ∙ (λ i. agreedIf (begins (tokenWords p number (line-tokens lim st line lead widths e i)) (drop (tokenSize * k) tokens))
+      (line-counted lim st line lead widths e (lineReadOf lead (lineCutsOf (st .depth) (cutsFrom 0 0 line))) refl i))
 
   -- it does not read
-  pub halted-line : (h : Halt) (b : Bool) → readLine 16 st line ≡ lineHalts h → differs ≡ agreedIf b (counted (readLine 16 st line))
+  pub halted-line : (h : Halt) (b : Bool) → readLine lim st line ≡ lineHalts h → differs ≡ agreedIf b (counted (readLine lim st line))
   halted-line h b e = ap (λ x. agreedIf b (counted x)) (sym e)
 
 pub agrees-within : (lead : Lead) (b : Bool) (x : LineCuts) (r : SameLine) → r ≡ sameLineIf b (lineReadOf lead x) → lead .levels ≤ widthWords → LevelsWithin r

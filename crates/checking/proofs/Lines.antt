@@ -11,7 +11,7 @@ use Rattle.rules.specs.Lists.{begins}
 use Rattle.rules.specs.Line as rules-line
 use Rattle.rules.specs.Line.{initial, Token, dedents, LineReply, lineReads, lineHalts, readLine}
 use Rattle.rules.specs.Reading.{Line, linesOf, content, Entry, entry, readFrom, lineAt, sizeAt}
-use Rattle.rules.specs.Replies.{barge}
+use Rattle.rules.specs.Limits.{LineLimits}
 use Rattle.rules.specs.Records.{widthWords, lineSize, tokenSize, lineNeed, tokenNeed, lineRecord, tokenWords, header, readLines}
 use Rattle.rules.specs.Page.{isRecorded}
 use Rattle.rules.proofs.LineLaws.{firstSize-le, lines-at, content-first}
@@ -38,35 +38,35 @@ agreed-line true (lineReads ts y) n z e =
 agreed-line false (lineReads ts y) n z e = let b : _≡_ {A = ℕ} 0 1 = cc in absurd (omega arith)
 agreed-line same (lineHalts h) n z e = let b : _≡_ {A = ℕ} 0 1 = cc in absurd (omega arith)
 
-module _ (t lines tokens : List ℕ) (count total : ℕ) where
+module _ (lim : LineLimits) (t lines tokens : List ℕ) (count total : ℕ) where
   abbrev answer : Bool
-  answer = isRecorded (record { head = header (length t) count total; lines = lines; tokens = tokens }) (readLines barge t)
+  answer = isRecorded (record { head = header (length t) count total; lines = lines; tokens = tokens }) (readLines lim t)
 
   abbrev rest : (p m k : ℕ) → rules-line.State → List Line → Bool
-  rest p m k z ls = restSame lines tokens count total p m k (readFrom 16 z ls)
+  rest p m k z ls = restSame lim lines tokens count total p m k (readFrom lim z ls)
 
   -- come to byte p, line m and token k, in the state s with these widths
   pub record AgreesTo (widths : List ℕ) (p m k : ℕ) (s : State) : Type 0 where
     pub es : List Entry
-    pub pass : PassTo t initial es widths p m k s
+    pub pass : PassTo lim t initial es widths p m k s
     pub left : rest p m k (stateOf s widths) (linesOf (drop p t)) ≡ answer
 
   pub agrees-start : length lines ≡ lineNeed count → length tokens ≡ tokenNeed total → (widths : List ℕ) → length widths ≡ widthWords
       → AgreesTo widths 0 0 0 (record { depth = 0; arrow = false; levels = 0 })
-  agrees-start wide long widths h = record { es = []; pass = pass-start t widths (record { depth = 0; arrow = false; levels = 0 }) (omega arith) h; left = sym (whole-same lines tokens count total t wide long) }
+  agrees-start wide long widths h = record { es = []; pass = pass-start lim t widths (record { depth = 0; arrow = false; levels = 0 }) (omega arith) h; left = sym (whole-same lim lines tokens count total t wide long) }
 
-module _ {t lines tokens : List ℕ} {count total : ℕ} {widths : List ℕ} {p m k : ℕ} {s : State} (v : AgreesTo t lines tokens count total widths p m k s) where
+module _ {lim : LineLimits} {t lines tokens : List ℕ} {count total : ℕ} {widths : List ℕ} {p m k : ℕ} {s : State} (v : AgreesTo lim t lines tokens count total widths p m k s) where
   abbrev goal : Bool
-  goal = answer t lines tokens count total
+  goal = answer lim t lines tokens count total
 
   abbrev left-of : (p m k : ℕ) → rules-line.State → List Line → Bool
-  left-of = rest t lines tokens count total
+  left-of = rest lim t lines tokens count total
 
   abbrev z : rules-line.State
   z = stateOf s widths
 
   pub other-record : false ≡ begins (lineRecord p k z) (drop (lineSize * m) lines) → false ≡ goal
-  other-record e = sym (record-other lines tokens count total p m k z (linesOf (drop p t)) (sym e)) ∙ v .left
+  other-record e = sym (record-other lim lines tokens count total p m k z (linesOf (drop p t)) (sym e)) ∙ v .left
 
   module _ (h : p < length t) where
     abbrev line : Line
@@ -83,34 +83,34 @@ module _ {t lines tokens : List ℕ} {count total : ℕ} {widths : List ℕ} {p 
 
     -- the line x is read from z, and r is the code's answer
     module _ (x : List ℕ) (here : x ≡ lineAt t p) (r : SameLine) (widths′ : List ℕ)
-        (e : agreedOf r widths′ ≡ agreedIf (begins (tokenWords p (m + 1) (tokensIn (readLine 16 z x))) (drop (tokenSize * k) tokens)) (counted (readLine 16 z x)))
+        (e : agreedOf r widths′ ≡ agreedIf (begins (tokenWords p (m + 1) (tokensIn (readLine lim z x))) (drop (tokenSize * k) tokens)) (counted (readLine lim z x)))
       where
-        read-as : (y : LineReply) → readLine 16 z x ≡ y → readLine 16 z (content line) ≡ y
-        read-as y q = ap (readLine 16 z) (content-first (drop p t) ∙ sym here) ∙ q
+        read-as : (y : LineReply) → readLine lim z x ≡ y → readLine lim z (content line) ≡ y
+        read-as y q = ap (readLine lim z) (content-first (drop p t) ∙ sym here) ∙ q
 
         pub other-line : r ≡ Differs → false ≡ goal
-        other-line q = go (readLine 16 z x) refl (ap (λ (y : SameLine). agreedOf y widths′) (sym q) ∙ e)
+        other-line q = go (readLine lim z x) refl (ap (λ (y : SameLine). agreedOf y widths′) (sym q) ∙ e)
           where
-            go : (y : LineReply) → readLine 16 z x ≡ y → differs ≡ agreedIf (begins (tokenWords p (m + 1) (tokensIn y)) (drop (tokenSize * k) tokens)) (counted y) → false ≡ goal
-            go (lineHalts w) i d = sym (turn-halts lines tokens count total p m k z line others w (read-as (lineHalts w) i)) ∙ left-line
+            go : (y : LineReply) → readLine lim z x ≡ y → differs ≡ agreedIf (begins (tokenWords p (m + 1) (tokensIn y)) (drop (tokenSize * k) tokens)) (counted y) → false ≡ goal
+            go (lineHalts w) i d = sym (turn-halts lim lines tokens count total p m k z line others w (read-as (lineHalts w) i)) ∙ left-line
             go (lineReads ts w) i d = by (begins (tokenWords p (m + 1) ts) (drop (tokenSize * k) tokens)) refl d
               where
                 by : (b : Bool) → begins (tokenWords p (m + 1) ts) (drop (tokenSize * k) tokens) ≡ b → differs ≡ agreedIf b (counted (lineReads ts w)) → false ≡ goal
                 by true j f = let n : _≡_ {A = ℕ} 0 1 = cc in absurd (omega arith)
-                by false j f = sym (turn-other lines tokens count total p m k z w line others ts (read-as (lineReads ts w) i) j) ∙ left-line
+                by false j f = sym (turn-other lim lines tokens count total p m k z w line others ts (read-as (lineReads ts w) i) j) ∙ left-line
 
         pub next-line : true ≡ begins (lineRecord p k z) (drop (lineSize * m) lines) → (n : ℕ) (s′ : State) → r ≡ Agrees n s′ → LevelsWithin r → length widths′ ≡ widthWords
-            → (q : ℕ) → q ≡ p + sizeAt t p → AgreesTo t lines tokens count total widths′ q (m + 1) (k + n) s′
+            → (q : ℕ) → q ≡ p + sizeAt t p → AgreesTo lim t lines tokens count total widths′ q (m + 1) (k + n) s′
         next-line er n s′ i few wide q at =
             let y : rules-line.State = stateOf s′ widths′ in
-            let a = agreed-line _ (readLine 16 z x) n y (ap (λ (w : SameLine). agreedOf w widths′) (sym i) ∙ e) in
+            let a = agreed-line _ (readLine lim z x) n y (ap (λ (w : SameLine). agreedOf w widths′) (sym i) ∙ e) in
             let same : true ≡ begins (tokenWords p (m + 1) (a .ts)) (drop (tokenSize * k) tokens) =
             a .agree ∙ ap (λ (w : LineReply). begins (tokenWords p (m + 1) (tokensIn w)) (drop (tokenSize * k) tokens)) (a .is) in
-            let turn = turn-same lines tokens count total p m k z y line others (a .ts) (read-as (lineReads (a .ts) y) (a .is)) er same in
+            let turn = turn-same lim lines tokens count total p m k z y line others (a .ts) (read-as (lineReads (a .ts) y) (a .is)) er same in
             let byte : q ≡ p + length line = omega (arith, size-is) in
             record {
               es = v .es ++ (entry z (sizeAt t p) (a .ts) ∷ []);
-              pass = next-pass (v .pass) h (a .ts) s′ widths′ n q (ap (readLine 16 z) (sym here) ∙ a .is) (a .size) at (subst LevelsWithin i few) wide;
+              pass = next-pass (v .pass) h (a .ts) s′ widths′ n q (ap (readLine lim z) (sym here) ∙ a .is) (a .size) at (subst LevelsWithin i few) wide;
               left = (λ j. left-of (byte j) (m + 1) (k + a .size j) y (linesOf (drop (at j) t))) ∙ sym turn ∙ left-line;
             }
 
@@ -124,11 +124,11 @@ module _ {t lines tokens : List ℕ} {count total : ℕ} {widths : List ℕ} {p 
     levels-are = length-take-le (s .levels) widths (omega (arith, v .pass .few, v .pass .wide))
 
     pub other-count : (m ≡ count → ⊥) → false ≡ goal
-    other-count n = sym (count-other lines tokens count total p m k z (s .levels) levels-are n) ∙ left-none
+    other-count n = sym (count-other lim lines tokens count total p m k z (s .levels) levels-are n) ∙ left-none
 
     pub other-total : (k + s .levels ≡ total → ⊥) → false ≡ goal
-    other-total n = sym (total-other lines tokens count total p m k z (s .levels) levels-are n) ∙ left-none
+    other-total n = sym (total-other lim lines tokens count total p m k z (s .levels) levels-are n) ∙ left-none
 
     pub end-is : m ≡ count → k + s .levels ≡ total → (r : Bool)
         → r ≡ (begins (lineRecord p k z) (drop (lineSize * m) lines) && begins (tokenWords p (m + 1) (dedents (s .levels))) (drop (tokenSize * k) tokens)) → r ≡ goal
-    end-is em ek r e = e ∙ sym (end-decides lines tokens count total p m k z (s .levels) levels-are em ek) ∙ left-none
+    end-is em ek r e = e ∙ sym (end-decides lim lines tokens count total p m k z (s .levels) levels-are em ek) ∙ left-none

@@ -1,39 +1,35 @@
 -- What `check` answers of a page: by its header, by tests 1 and 2 of its text, by its lines.
 -- Assumes nothing.
-use Prim.Native.Nat.{ℕ, _-_, _≤_, _<_}
+use Prim.Native.Nat.{ℕ, _-_}
 use mathlib.Core.Path.{_≡_, sym, ap, _∙_}
 use mathlib.Core.Bool.{Bool, true, false, _&&_}
 use mathlib.Core.List.{List, [], _∷_}
 use native.Mathlib.Omega.{arith}
 use lib.Dec.{leb}
 use lib.ListN.{length, take}
-use borrow.Author.Tests.{lt-ltb, le-ltb}
 use Rattle.rules.specs.Lists.{bit}
-use Rattle.rules.specs.Utf8.{wellFormedPrefix}
-use Rattle.rules.specs.Replies.{maxBytes, barge, numbered, refusedIf, unless, isTooLong, isMalformed}
-use Rattle.rules.specs.Records.{lineNeed, tokenNeed, header, Records, readLines, freshReadingBy, freshReading}
+use Rattle.rules.specs.Limits.{barge, bargeLine}
+use Rattle.rules.specs.Replies.{numbered, refusedIf, unless}
+use Rattle.rules.specs.Records.{lineNeed, tokenNeed, header, Records, readLines, freshReading}
 use Rattle.rules.specs.Page.{Page, isRecorded, isFaithful}
 use Rattle.rules.specs.Check.{checkReply}
-use Rattle.rules.proofs.PageLaws.{fresh-lines, Fits, fits-true, page-length}
+use Rattle.rules.proofs.PageLaws.{Fits, fits-true, page-length}
+use Rattle.refusals.specs.Unreads.{testOf}
+use Rattle.refusals.specs.declared.Unread.{Unread}
+use Rattle.refusals.specs.declared.TextTest.the-variants.{Passes, Refused}
+use Rattle.refusals.proofs.Tests.{fresh-after}
 use Rattle.header.specs.Pages.{page}
 use Rattle.header.proofs.Fitting.{fits-by}
 
--- The text t and the records q.
+-- The text t and the records q, by what the tests give.
 module _ (q : Records) (t : List ℕ) where
-  pub long-text : maxBytes < length t → false ≡ isRecorded q (freshReading t)
-  unfolding isRecorded freshReading freshReadingBy isTooLong
-  long-text h = rw (lt-ltb maxBytes (length t) h)
+  pub refused-text : (u : Unread) → testOf barge t ≡ Refused u → false ≡ isRecorded q (freshReading t)
+  unfolding isRecorded freshReading
+  refused-text u e = ap (isRecorded q) (sym (fresh-after barge t (Refused u) e))
 
-  module _ (h : length t ≤ maxBytes) (p : ℕ) (e : p ≡ wellFormedPrefix t) where
-    pub malformed-text : p < length t → false ≡ isRecorded q (freshReading t)
-    unfolding isRecorded freshReading freshReadingBy isTooLong isMalformed
-    malformed-text k = rw (le-ltb maxBytes (length t) h, ← e, lt-ltb p (length t) k)
-
-    pub lines-decide : length t ≤ p → (r : Bool) → r ≡ isRecorded q (readLines barge t) → r ≡ isRecorded q (freshReading t)
-    unfolding isTooLong isMalformed
-    lines-decide k r d =
-        let formed : isMalformed t ≡ false = rw (← e) (le-ltb p (length t) k) in
-        d ∙ ap (isRecorded q) (sym (fresh-lines t (le-ltb maxBytes (length t) h) formed))
+  pub lines-decide : testOf barge t ≡ Passes → (r : Bool) → r ≡ isRecorded q (readLines bargeLine t) → r ≡ isRecorded q (freshReading t)
+  unfolding freshReading
+  lines-decide e r d = d ∙ ap (isRecorded q) (sym (fresh-after barge t Passes e))
 
 -- The page.
 module _ (n m k : ℕ) (text lines tokens : List ℕ) where

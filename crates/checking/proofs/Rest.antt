@@ -14,7 +14,7 @@ use Rattle.rules.specs.Lists.{begins}
 use Rattle.rules.specs.Kinds.{Dedent}
 use Rattle.rules.specs.Line.{State, initial, Token, tokenAt, dedents, Halt, LineReply, lineReads, lineHalts, readLine}
 use Rattle.rules.specs.Reading.{Line, linesOf, content, Entry, entry, Reading, reads, halts, withEntry, lineThen, readFrom, byteSum, tokenSum}
-use Rattle.rules.specs.Replies.{barge}
+use Rattle.rules.specs.Limits.{LineLimits}
 use Rattle.rules.specs.Records.{lineSize, tokenSize, lineNeed, tokenNeed, lineRecord, lineRecords, tokenWords, tokenRecords, withEnd, header, Records, recordsOf, recordedBy, readLines}
 use Rattle.rules.specs.Page.{sameRecords, isRecorded}
 use Rattle.rules.proofs.ListLaws.{and-true}
@@ -42,7 +42,7 @@ unfolding lineRecord
 length-lineRecord p k s = ap (λ (n : ℕ). suc (suc n)) (length-stateWords s)
 
 -- A page with these line and token words, and these numbers of lines and tokens.
-module _ (lines tokens : List ℕ) (count total : ℕ) where
+module _ (lim : LineLimits) (lines tokens : List ℕ) (count total : ℕ) where
   -- the records of a reading from byte p on stand from line m and token k on, and no others
   abbrev pub restSame : (p m k : ℕ) → Reading → Bool
   restSame p m k (reads es z) =
@@ -89,57 +89,57 @@ module _ (lines tokens : List ℕ) (count total : ℕ) where
         ∙ ap (λ (n : ℕ). recordSame z && tokensSame (dedents n) && (eqb m count && eqb (k + n) total)) e
 
     -- a line read from the state z, then the other lines
-    pub turn-same : (z y : State) (l : Line) (ls : List Line) (ts : List Token) → readLine 16 z (content l) ≡ lineReads ts y → true ≡ recordSame z → true ≡ tokensSame ts
-        → restSame p m k (readFrom 16 z (l ∷ ls)) ≡ restSame (p + length l) (m + 1) (k + length ts) (readFrom 16 y ls)
+    pub turn-same : (z y : State) (l : Line) (ls : List Line) (ts : List Token) → readLine lim z (content l) ≡ lineReads ts y → true ≡ recordSame z → true ≡ tokensSame ts
+        → restSame p m k (readFrom lim z (l ∷ ls)) ≡ restSame (p + length l) (m + 1) (k + length ts) (readFrom lim y ls)
     unfolding readFrom lineThen
     turn-same z y l ls ts e er et =
-        ap (λ (x : LineReply). restSame p m k (lineThen z l x (λ w. readFrom 16 w ls))) e ∙ line-then z (length l) ts (readFrom 16 y ls)
-        ∙ (λ i. sym er i && sym et i && restSame (p + length l) (m + 1) (k + length ts) (readFrom 16 y ls))
+        ap (λ (x : LineReply). restSame p m k (lineThen z l x (λ w. readFrom lim w ls))) e ∙ line-then z (length l) ts (readFrom lim y ls)
+        ∙ (λ i. sym er i && sym et i && restSame (p + length l) (m + 1) (k + length ts) (readFrom lim y ls))
 
     -- its tokens are others
-    pub turn-other : (z y : State) (l : Line) (ls : List Line) (ts : List Token) → readLine 16 z (content l) ≡ lineReads ts y → tokensSame ts ≡ false
-        → restSame p m k (readFrom 16 z (l ∷ ls)) ≡ false
+    pub turn-other : (z y : State) (l : Line) (ls : List Line) (ts : List Token) → readLine lim z (content l) ≡ lineReads ts y → tokensSame ts ≡ false
+        → restSame p m k (readFrom lim z (l ∷ ls)) ≡ false
     unfolding readFrom lineThen
     turn-other z y l ls ts e et =
-        ap (λ (x : LineReply). restSame p m k (lineThen z l x (λ w. readFrom 16 w ls))) e ∙ line-then z (length l) ts (readFrom 16 y ls)
-        ∙ ap (λ (b : Bool). recordSame z && b && restSame (p + length l) (m + 1) (k + length ts) (readFrom 16 y ls)) et
-        ∙ ap (λ (b : Bool). b && restSame (p + length l) (m + 1) (k + length ts) (readFrom 16 y ls)) (and-false (recordSame z))
+        ap (λ (x : LineReply). restSame p m k (lineThen z l x (λ w. readFrom lim w ls))) e ∙ line-then z (length l) ts (readFrom lim y ls)
+        ∙ ap (λ (b : Bool). recordSame z && b && restSame (p + length l) (m + 1) (k + length ts) (readFrom lim y ls)) et
+        ∙ ap (λ (b : Bool). b && restSame (p + length l) (m + 1) (k + length ts) (readFrom lim y ls)) (and-false (recordSame z))
 
     -- it does not read
-    pub turn-halts : (z : State) (l : Line) (ls : List Line) (h : Halt) → readLine 16 z (content l) ≡ lineHalts h → restSame p m k (readFrom 16 z (l ∷ ls)) ≡ false
+    pub turn-halts : (z : State) (l : Line) (ls : List Line) (h : Halt) → readLine lim z (content l) ≡ lineHalts h → restSame p m k (readFrom lim z (l ∷ ls)) ≡ false
     unfolding readFrom lineThen
-    turn-halts z l ls h e = ap (λ (x : LineReply). restSame p m k (lineThen z l x (λ w. readFrom 16 w ls))) e
+    turn-halts z l ls h e = ap (λ (x : LineReply). restSame p m k (lineThen z l x (λ w. readFrom lim w ls))) e
 
     -- the next line's record, which may be that of the end, is another
-    pub record-other : (z : State) (ls : List Line) → recordSame z ≡ false → restSame p m k (readFrom 16 z ls) ≡ false
+    pub record-other : (z : State) (ls : List Line) → recordSame z ≡ false → restSame p m k (readFrom lim z ls) ≡ false
     unfolding readFrom lineThen
     record-other z [] e =
         end-then z (length (z .widths)) refl ∙ ap (λ (b : Bool). b && tokensSame (dedents (length (z .widths))) && (eqb m count && eqb (k + length (z .widths)) total)) e
-    record-other z (l ∷ ls) e = go (readLine 16 z (content l))
+    record-other z (l ∷ ls) e = go (readLine lim z (content l))
       where
-        go : (x : LineReply) → restSame p m k (lineThen z l x (λ w. readFrom 16 w ls)) ≡ false
+        go : (x : LineReply) → restSame p m k (lineThen z l x (λ w. readFrom lim w ls)) ≡ false
         go (lineHalts h) = refl
         go (lineReads ts y) =
-            line-then z (length l) ts (readFrom 16 y ls)
-            ∙ ap (λ (b : Bool). b && tokensSame ts && restSame (p + length l) (m + 1) (k + length ts) (readFrom 16 y ls)) e
+            line-then z (length l) ts (readFrom lim y ls)
+            ∙ ap (λ (b : Bool). b && tokensSame ts && restSame (p + length l) (m + 1) (k + length ts) (readFrom lim y ls)) e
 
     -- No line is left.
     module _ (z : State) (levels : ℕ) (e : length (z .widths) ≡ levels) where
-      none-left : restSame p m k (readFrom 16 z []) ≡ (recordSame z && tokensSame (dedents levels) && (eqb m count && eqb (k + levels) total))
+      none-left : restSame p m k (readFrom lim z []) ≡ (recordSame z && tokensSame (dedents levels) && (eqb m count && eqb (k + levels) total))
       unfolding readFrom
       none-left = end-then z levels e
 
-      pub count-other : (m ≡ count → ⊥) → restSame p m k (readFrom 16 z []) ≡ false
+      pub count-other : (m ≡ count → ⊥) → restSame p m k (readFrom lim z []) ≡ false
       count-other n =
           none-left ∙ ap (λ (b : Bool). recordSame z && tokensSame (dedents levels) && (b && eqb (k + levels) total)) (ne-eqb m count n)
           ∙ and-false (recordSame z && tokensSame (dedents levels))
 
-      pub total-other : (k + levels ≡ total → ⊥) → restSame p m k (readFrom 16 z []) ≡ false
+      pub total-other : (k + levels ≡ total → ⊥) → restSame p m k (readFrom lim z []) ≡ false
       total-other n =
           none-left ∙ ap (λ (b : Bool). recordSame z && tokensSame (dedents levels) && (eqb m count && b)) (ne-eqb (k + levels) total n)
           ∙ ap (λ (b : Bool). recordSame z && tokensSame (dedents levels) && b) (and-false (eqb m count)) ∙ and-false (recordSame z && tokensSame (dedents levels))
 
-      pub end-decides : m ≡ count → k + levels ≡ total → restSame p m k (readFrom 16 z []) ≡ (recordSame z && tokensSame (dedents levels))
+      pub end-decides : m ≡ count → k + levels ≡ total → restSame p m k (readFrom lim z []) ≡ (recordSame z && tokensSame (dedents levels))
       end-decides em ek =
           none-left ∙ (λ i. recordSame z && tokensSame (dedents levels) && (eq-eqb m count em i && eq-eqb (k + levels) total ek i))
           ∙ bool.and-true (recordSame z && tokensSame (dedents levels))
@@ -156,12 +156,12 @@ module _ (lines tokens : List ℕ) (count total : ℕ) where
     begins-itself : (xs ys : List ℕ) → xs ≡ ys → begins xs ys ≡ true
     begins-itself xs ys e = rw e (sym (same-begins ys ys refl) ∙ same-refl ys)
 
-    same-whole : (es : List Entry) (z : State) → readFrom 16 initial (linesOf t) ≡ reads es z → sameRecords (recordsOf es z) given ≡ restSame 0 0 0 (reads es z)
+    same-whole : (es : List Entry) (z : State) → readFrom lim initial (linesOf t) ≡ reads es z → sameRecords (recordsOf es z) given ≡ restSame 0 0 0 (reads es z)
     unfolding readLines recordedBy recordsOf
     same-whole es z e = both-ways _ _ there back
       where
         sizes : (byteSum es ≡ length t) × (length (recordsOf es z .lines) ≡ lineNeed (length es)) × (length (recordsOf es z .tokens) ≡ tokenNeed (tokenSum (withEnd es z)))
-        sizes = fresh-sizes t (recordsOf es z) (ap (recordedBy barge) e)
+        sizes = fresh-sizes lim t (recordsOf es z) (ap recordedBy e)
 
         there : sameRecords (recordsOf es z) given ≡ true → restSame 0 0 0 (reads es z) ≡ true
         there h =
@@ -187,10 +187,10 @@ module _ (lines tokens : List ℕ) (count total : ℕ) where
             let r : recordsOf es z ≡ given = λ i. record { head = record { n = sizes .0 i; m = em i; k = ek i }; lines = el i; tokens = et i } in
             ap (λ (x : Records). sameRecords x given) r ∙ sameRecords-refl given
 
-    pub whole-same : isRecorded given (readLines barge t) ≡ restSame 0 0 0 (readFrom 16 initial (linesOf t))
+    pub whole-same : isRecorded given (readLines lim t) ≡ restSame 0 0 0 (readFrom lim initial (linesOf t))
     unfolding readLines recordedBy isRecorded
-    whole-same = go (readFrom 16 initial (linesOf t)) refl
+    whole-same = go (readFrom lim initial (linesOf t)) refl
       where
-        go : (x : Reading) → readFrom 16 initial (linesOf t) ≡ x → isRecorded given (recordedBy barge x) ≡ restSame 0 0 0 x
+        go : (x : Reading) → readFrom lim initial (linesOf t) ≡ x → isRecorded given (recordedBy x) ≡ restSame 0 0 0 x
         go (reads es z) e = same-whole es z e
         go (halts es h) e = refl

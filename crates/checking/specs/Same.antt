@@ -27,7 +27,7 @@ abbrev pub sameLineIf : Bool → LineRead → SameLine
 sameLineIf true (read-variants.Reads n s) = same-line.Agrees n s
 sameLineIf false (read-variants.Reads n s) = same-line.Differs
 sameLineIf b (read-variants.Fails f) = same-line.Differs
-sameLineIf b read-variants.TooDeep = same-line.Differs
+sameLineIf b (read-variants.OverLimit number) = same-line.Differs
 
 -- the same with the state of the rules
 pub data Agreed : Type 0 where

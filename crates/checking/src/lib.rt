@@ -5,7 +5,7 @@ ghost use Prim.Native.Nat.{_+_, _*_, _≤_};
 ghost use lib.ListN.{length, drop};
 ghost use Rattle.rules.specs.Lists.{begins};
 ghost use Rattle.rules.specs.Line.{dedents, cutsFrom, readLine};
-ghost use Rattle.rules.specs.Replies.{barge};
+ghost use Rattle.refusals.specs.Limits.{lineLimitsOf};
 ghost use Rattle.rules.specs.Records.{widthWords, lineSize, tokenSize, lineRecord, tokenWords, header, readLines, freshReading};
 ghost use Rattle.rules.specs.Page.{isRecorded};
 ghost use Rattle.rules.specs.Check.{checkReply};
@@ -205,6 +205,7 @@ fn line_agrees(
     k: usize,
     position: u32,
     number: u32,
+    limits: refusals::LineLimits,
     widths: &mut [u32],
     s: records::State,
 ) -> SameLine
@@ -214,13 +215,13 @@ fn line_agrees(
     requires { ⌜ now signs ≡ signTable ⌝ }
     requires { ⌜ now keywords ≡ keywordTable ⌝ }
     requires { ⌜ (position + length (now line) ≤ 1_048_576) × ((s .depth ≤ 4_194_304) × (k ≤ 3_000_000)) ⌝ }
-    requires { ⌜ (length (now widths) ≡ widthWords) × (s .levels ≤ widthWords) ⌝ }
-    ensures { λ r. ⌜ agreedOf r (now (widths .exit)) ≡ agreedIf (begins (tokenWords position number (tokensIn (readLine 16 (stateOf s (now (widths .entry))) (now (line .entry))))) (drop (tokenSize * k) (now (tokens .entry)))) (counted (readLine 16 (stateOf s (now (widths .entry))) (now (line .entry)))) ⌝ }
+    requires { ⌜ (length (now widths) ≡ widthWords) × (s .levels ≤ widthWords) × (limits .levels ≤ widthWords) ⌝ }
+    ensures { λ r. ⌜ agreedOf r (now (widths .exit)) ≡ agreedIf (begins (tokenWords position number (tokensIn (readLine (lineLimitsOf limits) (stateOf s (now (widths .entry))) (now (line .entry))))) (drop (tokenSize * k) (now (tokens .entry)))) (counted (readLine (lineLimitsOf limits) (stateOf s (now (widths .entry))) (now (line .entry)))) ⌝ }
     ensures { λ r. ⌜ LevelsWithin r ⌝ }
 {
     let depth = s.depth;
     let spaces = line::leading_spaces(reach, line);
-    match line::levels_of(line, spaces, s, widths) {
+    match line::levels_of(limits, line, spaces, s, widths) {
         line::Compared::Levels(lead) => tokens_agree(
             class,
             reach,
@@ -236,7 +237,7 @@ fn line_agrees(
             lead,
         ),
         line::Compared::Unequal => SameLine::Differs,
-        line::Compared::TooDeep => SameLine::Differs,
+        line::Compared::Beyond(_) => SameLine::Differs,
     }
 }
 
@@ -271,6 +272,7 @@ fn lines_agree(
     tokens: &[u32],
     count: usize,
     total: usize,
+    limits: refusals::LineLimits,
     widths: &mut [u32],
 ) -> bool
     requires { ⌜ now class ≡ classTable ⌝ }
@@ -278,9 +280,9 @@ fn lines_agree(
     requires { ⌜ now index ≡ signIndexTable ⌝ }
     requires { ⌜ now signs ≡ signTable ⌝ }
     requires { ⌜ now keywords ≡ keywordTable ⌝ }
-    requires { ⌜ (length (now text) ≤ 1_048_576) × (length (now widths) ≡ widthWords) ⌝ }
+    requires { ⌜ (length (now text) ≤ 1_048_576) × (length (now widths) ≡ widthWords) × (limits .levels ≤ widthWords) ⌝ }
     requires { ⌜ (length (now lines) ≡ lineSize * (count + 1)) × (length (now tokens) ≡ tokenSize * total) ⌝ }
-    ensures { λ r. ⌜ r ≡ isRecorded (record { head = header (length (now (text .entry))) count total; lines = now (lines .entry); tokens = now (tokens .entry) }) (readLines barge (now (text .entry))) ⌝ }
+    ensures { λ r. ⌜ r ≡ isRecorded (record { head = header (length (now (text .entry))) count total; lines = now (lines .entry); tokens = now (tokens .entry) }) (readLines (lineLimitsOf limits) (now (text .entry))) ⌝ }
 {
     let mut p: usize = 0;
     let mut m: usize = 0;
@@ -306,6 +308,7 @@ fn lines_agree(
             k,
             p as u32,
             m as u32 + 1,
+            limits,
             widths,
             s,
         ) {
@@ -334,10 +337,8 @@ fn is_fresh(text: &[u8], lines: &[u32], tokens: &[u32], count: usize, total: usi
     requires { ⌜ (length (now lines) ≡ lineSize * (count + 1)) × (length (now tokens) ≡ tokenSize * total) ⌝ }
     ensures { λ r. ⌜ r ≡ isRecorded (record { head = header (length (now (text .entry))) count total; lines = now (lines .entry); tokens = now (tokens .entry) }) (freshReading (now (text .entry))) ⌝ }
 {
-    if 1_048_576 < text.len() {
-        return false;
-    }
-    if utf8::well_formed_prefix(text) < text.len() {
+    let limits = refusals::barge_limits();
+    if let refusals::TextTest::Refused(_) = refusals::test_text(limits, text) {
         return false;
     }
     let class = spelling::class_table();
@@ -357,6 +358,7 @@ fn is_fresh(text: &[u8], lines: &[u32], tokens: &[u32], count: usize, total: usi
         tokens,
         count,
         total,
+        limits.line,
         &mut widths,
     )
 }

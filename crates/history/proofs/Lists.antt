@@ -14,17 +14,19 @@ use denote.Enum.Declared.{tagOf}
 use Rattle.page.proofs.EditAnswer.{the-type}
 use Rattle.laws.specs.Blocks.{table}
 use Rattle.rules.specs.Lists.{overwrite}
-use Rattle.rules.specs.Replies.{maxBytes, barge, Reply, accepted, isTooLong}
+use Rattle.rules.specs.Limits.{maxBytes, barge, bargeLine}
+use Rattle.rules.specs.Replies.{Reply, accepted, isTooLong}
 use Rattle.rules.specs.Records.{lineSize, Header, header}
 use Rattle.rules.specs.Page.{Page, Lent, Sizes, sizes, headerAfter, pageRecords, pageText, freshReply, freshLines, freshLent}
 use Rattle.rules.specs.StopRule.{Edit}
 use Rattle.rules.specs.Edit.{EditPost}
 use Rattle.rules.specs.History.{Chain, none, call, Holds, Agrees, paperText}
 use Rattle.rules.proofs.BoundLaws.{Small, fresh-small}
-use Rattle.rules.proofs.PageLaws.{fresh-inverse}
+use Rattle.rules.proofs.PageLaws.{unread-kept, fresh-inverse}
+use Rattle.refusals.specs.Unreads.{unreadOf}
 use Rattle.page.specs.Answers.{editNumbers, lent, lentAfter}
 use Rattle.page.specs.declared.EditAnswer.{EditAnswer}
-use Rattle.page.specs.declared.EditAnswer.the-variants.{Edited, TooLong, Malformed, Fails, TooDeep, ShortText, ShortSpare, ShortLines, ShortTokens, Outside, Unfit}
+use Rattle.page.specs.declared.EditAnswer.the-variants.{Edited, Refused, ShortText, ShortSpare, ShortLines, ShortTokens, Outside, Unfit}
 use Rattle.page.proofs.FreshPages.{fresh-long, fresh-post}
 use Rattle.page.proofs.PageHistory.{history}
 use Rattle.planning.proofs.Plans.{short-text}
@@ -78,12 +80,9 @@ small-held : (z : Sizes) (t : List ℕ) (h : Header) (text spare lines tokens : 
 unfolding headerAfter
 small-held z t h text spare lines tokens (Edited n m k count) x =
     let v = fresh-inverse t _ (x .records-are) in
-    let s = fresh-small t _ (short-text t (v .0)) (v .2) in
+    let s = fresh-small bargeLine (omega arith) t _ (short-text t (v .0)) (v .2) in
     (omega (arith, s .n-le), omega (arith, s .n-le, s .m-le), omega (arith, s .n-le, s .k-le))
-small-held z t h text spare lines tokens (TooLong n) x = tt
-small-held z t h text spare lines tokens (Malformed n) x = tt
-small-held z t h text spare lines tokens (Fails f) x = tt
-small-held z t h text spare lines tokens (TooDeep l) x = tt
+small-held z t h text spare lines tokens (Refused u) x = tt
 small-held z t h text spare lines tokens (ShortText n) x = tt
 small-held z t h text spare lines tokens (ShortSpare n) x = tt
 small-held z t h text spare lines tokens (ShortLines n) x = tt
@@ -146,10 +145,7 @@ module _ (n m k : ℕ) where
   pub head-kept : (last : EditAnswer) → ((n′ m′ k′ count : ℕ) → last ≡ Edited n′ m′ k′ count → ⊥) → header n m k ≡ headerAfter (header n m k) (editNumbers last)
   unfolding headerAfter
   head-kept (Edited n′ m′ k′ count) x = absurd (x n′ m′ k′ count refl)
-  head-kept (TooLong l) x = refl
-  head-kept (Malformed l) x = refl
-  head-kept (Fails f) x = refl
-  head-kept (TooDeep l) x = refl
+  head-kept (Refused u) x = sym (unread-kept (header n m k) (unreadOf u))
   head-kept (ShortText l) x = refl
   head-kept (ShortSpare l) x = refl
   head-kept (ShortLines l) x = refl
@@ -158,8 +154,8 @@ module _ (n m k : ℕ) where
   head-kept Unfit x = refl
 
 -- an answer with another key is no acceptance
-pub other : (last : EditAnswer) (n m k count : ℕ) → last ≡ Edited n m k count → OneOf (1 ∷ 2 ∷ 3 ∷ 4 ∷ 5 ∷ 6 ∷ 7 ∷ 8 ∷ 9 ∷ 10 ∷ []) (tagOf the-type last) → ⊥
-other last n m k count e x = none-of (subst (λ (r : EditAnswer). OneOf (1 ∷ 2 ∷ 3 ∷ 4 ∷ 5 ∷ 6 ∷ 7 ∷ 8 ∷ 9 ∷ 10 ∷ []) (tagOf the-type r)) e x)
+pub other : (last : EditAnswer) (n m k count : ℕ) → last ≡ Edited n m k count → OneOf (1 ∷ 2 ∷ 3 ∷ 4 ∷ 5 ∷ 6 ∷ 7 ∷ []) (tagOf the-type last) → ⊥
+other last n m k count e x = none-of (subst (λ (r : EditAnswer). OneOf (1 ∷ 2 ∷ 3 ∷ 4 ∷ 5 ∷ 6 ∷ 7 ∷ []) (tagOf the-type r)) e x)
   where
-    none-of : OneOf (1 ∷ 2 ∷ 3 ∷ 4 ∷ 5 ∷ 6 ∷ 7 ∷ 8 ∷ 9 ∷ 10 ∷ []) 0 → ⊥
-    none-of = (⊎-elim (λ (e : 0 ≡ 1). omega (arith, e)) (⊎-elim (λ (e : 0 ≡ 2). omega (arith, e)) (⊎-elim (λ (e : 0 ≡ 3). omega (arith, e)) (⊎-elim (λ (e : 0 ≡ 4). omega (arith, e)) (⊎-elim (λ (e : 0 ≡ 5). omega (arith, e)) (⊎-elim (λ (e : 0 ≡ 6). omega (arith, e)) (⊎-elim (λ (e : 0 ≡ 7). omega (arith, e)) (⊎-elim (λ (e : 0 ≡ 8). omega (arith, e)) (⊎-elim (λ (e : 0 ≡ 9). omega (arith, e)) (λ (e : 0 ≡ 10). omega (arith, e)))))))))))
+    none-of : OneOf (1 ∷ 2 ∷ 3 ∷ 4 ∷ 5 ∷ 6 ∷ 7 ∷ []) 0 → ⊥
+    none-of = (⊎-elim (λ (e : 0 ≡ 1). omega (arith, e)) (⊎-elim (λ (e : 0 ≡ 2). omega (arith, e)) (⊎-elim (λ (e : 0 ≡ 3). omega (arith, e)) (⊎-elim (λ (e : 0 ≡ 4). omega (arith, e)) (⊎-elim (λ (e : 0 ≡ 5). omega (arith, e)) (⊎-elim (λ (e : 0 ≡ 6). omega (arith, e)) (λ (e : 0 ≡ 7). omega (arith, e))))))))

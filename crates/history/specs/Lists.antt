@@ -11,7 +11,7 @@ use Rattle.rules.specs.StopRule.{Edit}
 use Rattle.rules.specs.History.{Agrees}
 use Rattle.planning.specs.Plans.{editOf}
 use Rattle.page.specs.declared.EditAnswer.{EditAnswer}
-use Rattle.page.specs.declared.EditAnswer.the-variants.{Edited, TooLong, Malformed, Fails, TooDeep, ShortText, ShortSpare, ShortLines, ShortTokens, Outside, Unfit}
+use Rattle.page.specs.declared.EditAnswer.the-variants.{Edited, Refused, ShortText, ShortSpare, ShortLines, ShortTokens, Outside, Unfit}
 
 -- edit i of a list with four numbers for each: a, b, and the range of the lent bytes that is w
 abbrev pub editAt : (edits bytes : List ℕ) → (i : ℕ) → Edit
@@ -32,10 +32,7 @@ lastReply (r ∷ s ∷ rs) = lastReply (s ∷ rs)
 -- an acceptance whose header fits in words
 abbrev pub SmallAnswer : EditAnswer → Type 0
 SmallAnswer (Edited n m k count) = (n ≤ 4_294_967_295) × (m ≤ 4_294_967_295) × (k ≤ 4_294_967_295)
-SmallAnswer (TooLong n) = Unit {0}
-SmallAnswer (Malformed n) = Unit {0}
-SmallAnswer (Fails f) = Unit {0}
-SmallAnswer (TooDeep l) = Unit {0}
+SmallAnswer (Refused u) = Unit {0}
 SmallAnswer (ShortText n) = Unit {0}
 SmallAnswer (ShortSpare n) = Unit {0}
 SmallAnswer (ShortLines n) = Unit {0}

@@ -11,7 +11,8 @@ use lib.ListN.{length, take, length-append, length-replicate}
 use Rattle.rules.specs.Lists.{if_then_else_}
 use Rattle.rules.specs.Kinds.{Indent, Newline}
 use Rattle.rules.specs.Failure.{Failure, failure, badIndent}
-use Rattle.rules.specs.Line.{Token, tokenAt, dedents, Cuts, cuts, stops, cutsFrom, depthAfter, arrowAfter, State, Levels, levels, unequal, tooDeep, indentSize, levelsOf, failed, overLimit, LineReply, lineReads, lineHalts, withCuts, withLevels, readLine}
+use Rattle.rules.specs.Limits.{LineLimits}
+use Rattle.rules.specs.Line.{Token, tokenAt, dedents, Cuts, cuts, stops, cutsFrom, depthAfter, arrowAfter, State, Levels, levels, unequal, beyond, indentSize, levelsOf, failed, overLimit, LineReply, lineReads, lineHalts, withCuts, withLevels, readLine}
 use Rattle.rules.specs.Records.{widthWords, tokenSize, tokenWords}
 use Rattle.rules.proofs.RecordLaws.{length-tokenWords}
 use Rattle.rules.proofs.BoundLaws.{cuts-ok}
@@ -117,28 +118,29 @@ module _ (lead : Lead) (line : List ℕ) (p l k m : ℕ) (w : Bool) (t₀ t₁ t
 
 -- The reply of a line whose levels are known.
 
-module _ (st : State) (line : List ℕ) where
-  read-levels : (ls : List Token) (ws : List ℕ) → levelsOf 16 st line ≡ levels ls ws → readLine 16 st line ≡ withCuts st line ls ws (cutsFrom 0 0 line)
+module _ (lim : LineLimits) (st : State) (line : List ℕ) where
+  read-levels : (ls : List Token) (ws : List ℕ) → levelsOf lim st line ≡ levels ls ws → readLine lim st line ≡ withCuts st line ls ws (cutsFrom 0 0 line)
   unfolding readLine withLevels
   read-levels ls ws e = rw e
 
-  pub read-unequal : (r : Compared) (widths : List ℕ) → comparedOf r widths ≡ levelsOf 16 st line → r ≡ compared-variants.Unequal → readLine 16 st line ≡ lineHalts (failed (failure badIndent 0 0 (indentSize line)))
+  pub read-unequal : (r : Compared) (widths : List ℕ) → comparedOf r widths ≡ levelsOf lim st line → r ≡ compared-variants.Unequal → readLine lim st line ≡ lineHalts (failed (failure badIndent 0 0 (indentSize line)))
   unfolding readLine withLevels
-  read-unequal r widths e q = let f : levelsOf 16 st line ≡ unequal = sym e ∙ ap (λ (x : Compared). comparedOf x widths) q in rw f
+  read-unequal r widths e q = let f : levelsOf lim st line ≡ unequal = sym e ∙ ap (λ (x : Compared). comparedOf x widths) q in rw f
 
-  pub read-deep : (r : Compared) (widths : List ℕ) → comparedOf r widths ≡ levelsOf 16 st line → r ≡ compared-variants.TooDeep → readLine 16 st line ≡ lineHalts overLimit
+  pub read-beyond : (r : Compared) (widths : List ℕ) (number : ℕ) → comparedOf r widths ≡ levelsOf lim st line → r ≡ compared-variants.Beyond number
+      → readLine lim st line ≡ lineHalts (overLimit number)
   unfolding readLine withLevels
-  read-deep r widths e q = let f : levelsOf 16 st line ≡ tooDeep = sym e ∙ ap (λ (x : Compared). comparedOf x widths) q in rw f
+  read-beyond r widths number e q = let f : levelsOf lim st line ≡ beyond number = sym e ∙ ap (λ (x : Compared). comparedOf x widths) q in rw f
 
-  pub levels-known : (r : Compared) (lead : Lead) (widths : List ℕ) → comparedOf r widths ≡ levelsOf 16 st line → r ≡ compared-variants.Levels lead
-      → levelsOf 16 st line ≡ levels (leading lead) (take (lead .levels) widths)
+  pub levels-known : (r : Compared) (lead : Lead) (widths : List ℕ) → comparedOf r widths ≡ levelsOf lim st line → r ≡ compared-variants.Levels lead
+      → levelsOf lim st line ≡ levels (leading lead) (take (lead .levels) widths)
   levels-known r lead widths e q = sym e ∙ ap (λ (x : Compared). comparedOf x widths) q
 
-  module _ (lead : Lead) (widths : List ℕ) (e : levelsOf 16 st line ≡ levels (leading lead) (take (lead .levels) widths)) where
+  module _ (lead : Lead) (widths : List ℕ) (e : levelsOf lim st line ≡ levels (leading lead) (take (lead .levels) widths)) where
     abbrev reply : Cuts → LineReply
     reply x = withCuts st line (leading lead) (take (lead .levels) widths) x
 
-    known : readLine 16 st line ≡ reply (cutsFrom 0 0 line)
+    known : readLine lim st line ≡ reply (cutsFrom 0 0 line)
     known = read-levels (leading lead) (take (lead .levels) widths) e
 
     reply-counted : (x : Cuts) → countedOf (lineReadOf lead (lineCutsOf (st .depth) x)) widths ≡ counted (reply x)
@@ -159,13 +161,13 @@ module _ (st : State) (line : List ℕ) where
     reply-room (cuts ts) k n h = h
     reply-room (stops f) k n h = h
 
-    pub line-counted : (r : LineRead) → r ≡ lineReadOf lead (lineCutsOf (st .depth) (cutsFrom 0 0 line)) → countedOf r widths ≡ counted (readLine 16 st line)
+    pub line-counted : (r : LineRead) → r ≡ lineReadOf lead (lineCutsOf (st .depth) (cutsFrom 0 0 line)) → countedOf r widths ≡ counted (readLine lim st line)
     line-counted r q = ap (λ (x : LineRead). countedOf x widths) q ∙ reply-counted (cutsFrom 0 0 line) ∙ ap counted (sym known)
 
-    pub line-tokens : tokensOf (wholeLine lead line (cutsFrom 0 0 line)) ≡ tokensIn (readLine 16 st line)
+    pub line-tokens : tokensOf (wholeLine lead line (cutsFrom 0 0 line)) ≡ tokensIn (readLine lim st line)
     line-tokens = reply-tokens (cutsFrom 0 0 line) ∙ ap tokensIn (sym known)
 
-    pub line-room : (k n : ℕ) → RoomIn (readLine 16 st line) k n → RoomFor (wholeLine lead line (cutsFrom 0 0 line)) k n
+    pub line-room : (k n : ℕ) → RoomIn (readLine lim st line) k n → RoomFor (wholeLine lead line (cutsFrom 0 0 line)) k n
     line-room k n h = reply-room (cutsFrom 0 0 line) k n (subst (λ (x : LineReply). RoomIn x k n) known h)
 
 pub levels-within : (lead : Lead) (x : LineCuts) (r : LineRead) → r ≡ lineReadOf lead x → lead .levels ≤ widthWords → LevelsWithin r

@@ -17,7 +17,7 @@ use Rattle.line.specs.declared.Lead.{Lead}
 use Rattle.line.specs.declared.Place.{Place}
 use Rattle.line.specs.declared.Cursor.{Cursor}
 use Rattle.line.specs.declared.LineRead.{LineRead}
-use Rattle.line.specs.declared.LineRead.the-variants.{Reads, Fails, TooDeep}
+use Rattle.line.specs.declared.LineRead.the-variants.{Reads, Fails, OverLimit}
 use Rattle.line.specs.declared.LineCuts.{LineCuts}
 use Rattle.line.specs.declared.LineCuts.the-variants.{Ends, Stops}
 
@@ -88,9 +88,9 @@ counted (lineHalts h) = countedHalts h
 abbrev pub countedOf : LineRead → (widths : List ℕ) → Counted
 countedOf (Reads n s) ws = countedReads n (stateOf s ws)
 countedOf (Fails f) ws = countedHalts (failed (failureOf f))
-countedOf TooDeep ws = countedHalts overLimit
+countedOf (OverLimit number) ws = countedHalts (overLimit number)
 
 abbrev pub LevelsWithin : LineRead → Type 0
 LevelsWithin (Reads n s) = s .levels ≤ widthWords
 LevelsWithin (Fails f) = Unit {0}
-LevelsWithin TooDeep = Unit {0}
+LevelsWithin (OverLimit number) = Unit {0}

@@ -11,7 +11,7 @@ use Rattle.rules.specs.Line as rules-line
 use Rattle.rules.specs.Records.{widthWords}
 use Rattle.line.specs.declared.Lead.{Lead}
 use Rattle.line.specs.declared.Compared.{Compared}
-use Rattle.line.specs.declared.Compared.the-variants.{Levels, Unequal, TooDeep}
+use Rattle.line.specs.declared.Compared.the-variants.{Levels, Unequal, Beyond}
 
 -- what stands at a line's start: an Indent, or Dedents
 abbrev pub leading : Lead → List rules-line.Token
@@ -20,19 +20,19 @@ leading l = if l .opens then rules-line.tokenAt Indent 0 0 ∷ [] else rules-lin
 abbrev pub comparedOf : Compared → (widths : List ℕ) → rules-line.Levels
 comparedOf (Levels l) ws = rules-line.Levels.levels (leading l) (take (l .levels) ws)
 comparedOf Unequal ws = rules-line.Levels.unequal
-comparedOf TooDeep ws = rules-line.Levels.tooDeep
+comparedOf (Beyond number) ws = rules-line.Levels.beyond number
 
 -- the lent widths after a line: those of the levels then open stand at the front, the others are as they were; all are where it is refused
 abbrev pub widthsAfter : rules-line.Levels → (widths : List ℕ) → List ℕ
 widthsAfter (rules-line.Levels.levels ts now) ws = overwrite now ws
 widthsAfter rules-line.Levels.unequal ws = ws
-widthsAfter rules-line.Levels.tooDeep ws = ws
+widthsAfter (rules-line.Levels.beyond number) ws = ws
 
 -- at most 16 levels open and as many closed
 abbrev pub Within : Compared → Type 0
 Within (Levels l) = (l .levels ≤ widthWords) × (l .closes ≤ widthWords)
 Within Unequal = Unit {0}
-Within TooDeep = Unit {0}
+Within (Beyond number) = Unit {0}
 
 -- the depth that a token of this kind leaves
 unfoldable pub depthBy : (depth kind : ℕ) → ℕ

@@ -14,6 +14,7 @@ ghost use Rattle.spelling.specs.Bytes.{classTable, reachTable};
 ghost use Rattle.spelling.specs.Rows.{keywordTable};
 ghost use Rattle.spelling.specs.Signs.{signTable, signIndexTable};
 ghost use Rattle.records.specs.States.{stateOf};
+ghost use Rattle.refusals.specs.Limits.{lineLimitsOf};
 ghost use Rattle.line.specs.States.{leading, comparedOf, widthsAfter, Within, depthBy, endsOrComment};
 ghost use Rattle.line.specs.LineCuts.{lineCutsOf, tokensOf, RoomFor, failureIn, cursorAt, blankPast, tokenPast, wordsAt, wholeLine, lineReadOf, tokensIn, RoomIn, counted, countedOf, LevelsWithin};
 ghost use Rattle.laws.specs.Puts.{putIf};
@@ -25,11 +26,11 @@ pub struct Lead {
     pub levels: usize,
 }
 
-// The same; or a width that is none of the open ones; or a level too many.
+// The same; or a width that is none of the open ones; or a limit's refusal, by its number.
 pub enum Compared {
     Levels(Lead),
     Unequal,
-    TooDeep,
+    Beyond(u32),
 }
 
 // The indent width: leading spaces count 1, tabs 4.
@@ -197,15 +198,20 @@ fn levels_left(widths: &[u32], levels: usize, width: u32) -> usize
 }
 
 // The line's width compared with the open levels; a wider one is pushed.
-fn compare_levels(widths: &mut [u32], levels: usize, width: u32) -> Compared
-    requires { ⌜ (length (now widths) ≡ widthWords) × (levels ≤ widthWords) ⌝ }
-    ensures { λ r. ⌜ comparedOf r (now (widths .exit)) ≡ compared 16 width (take levels (now (widths .entry))) ⌝ }
+fn compare_levels(
+    limits: refusals::LineLimits,
+    widths: &mut [u32],
+    levels: usize,
+    width: u32,
+) -> Compared
+    requires { ⌜ (length (now widths) ≡ widthWords) × (levels ≤ widthWords) × (limits .levels ≤ widthWords) ⌝ }
+    ensures { λ r. ⌜ comparedOf r (now (widths .exit)) ≡ compared (lineLimitsOf limits) width (take levels (now (widths .entry))) ⌝ }
     ensures { λ r. ⌜ Within r ⌝ }
-    ensures { λ _. ⌜ now (widths .exit) ≡ widthsAfter (compared 16 width (take levels (now (widths .entry)))) (now (widths .entry)) ⌝ }
+    ensures { λ _. ⌜ now (widths .exit) ≡ widthsAfter (compared (lineLimitsOf limits) width (take levels (now (widths .entry)))) (now (widths .entry)) ⌝ }
 {
     if innermost(widths, levels) < width {
-        if 16 <= levels {
-            return Compared::TooDeep;
+        if limits.levels <= levels {
+            return Compared::Beyond(limits.deep);
         }
         widths[levels] = width;
         return Compared::Levels(Lead {
@@ -240,16 +246,22 @@ fn is_compared(line: &[u8], spaces: usize, s: records::State) -> bool
 }
 
 // The levels at the start of a line that begins with so many spaces.
-pub fn levels_of(line: &[u8], spaces: usize, s: records::State, widths: &mut [u32]) -> Compared
-    requires { ⌜ (length (now line) ≤ 1_048_576) × (length (now widths) ≡ widthWords) × (s .levels ≤ widthWords) ⌝ }
+pub fn levels_of(
+    limits: refusals::LineLimits,
+    line: &[u8],
+    spaces: usize,
+    s: records::State,
+    widths: &mut [u32],
+) -> Compared
+    requires { ⌜ (length (now line) ≤ 1_048_576) × (length (now widths) ≡ widthWords) × (s .levels ≤ widthWords) × (limits .levels ≤ widthWords) ⌝ }
     requires { ⌜ spaces ≡ run isSpace (now line) ⌝ }
-    ensures { λ r. ⌜ comparedOf r (now (widths .exit)) ≡ levelsOf 16 (stateOf s (now (widths .entry))) (now (line .entry)) ⌝ }
+    ensures { λ r. ⌜ comparedOf r (now (widths .exit)) ≡ levelsOf (lineLimitsOf limits) (stateOf s (now (widths .entry))) (now (line .entry)) ⌝ }
     ensures { λ r. ⌜ Within r ⌝ }
-    ensures { λ _. ⌜ now (widths .exit) ≡ widthsAfter (levelsOf 16 (stateOf s (now (widths .entry))) (now (line .entry))) (now (widths .entry)) ⌝ }
+    ensures { λ _. ⌜ now (widths .exit) ≡ widthsAfter (levelsOf (lineLimitsOf limits) (stateOf s (now (widths .entry))) (now (line .entry))) (now (widths .entry)) ⌝ }
 {
     let levels = s.levels;
     if is_compared(line, spaces, s) {
-        return compare_levels(widths, levels, width_behind(line, spaces));
+        return compare_levels(limits, widths, levels, width_behind(line, spaces));
     }
     Compared::Levels(Lead {
         opens: false,
@@ -497,11 +509,11 @@ fn put_leading(
     lead.closes
 }
 
-// What a line gives: the number of its tokens and the state after it; or its failure; or a level too many.
+// What a line gives: the number of its tokens and the state after it; or its failure; or a limit's refusal, by its number.
 pub enum LineRead {
     Reads(usize, records::State),
     Fails(cut::Failure),
-    TooDeep,
+    OverLimit(u32),
 }
 
 // A line whose levels are known: what stands at its start, its cuts, and the Newline.
@@ -593,6 +605,7 @@ pub fn read_line(
     k: usize,
     position: u32,
     number: u32,
+    limits: refusals::LineLimits,
     widths: &mut [u32],
     s: records::State,
 ) -> LineRead
@@ -602,12 +615,12 @@ pub fn read_line(
     requires { ⌜ now signs ≡ signTable ⌝ }
     requires { ⌜ now keywords ≡ keywordTable ⌝ }
     requires { ⌜ (position + length (now line) ≤ 1_048_576) × ((s .depth ≤ 4_194_304) × (k ≤ 3_000_000)) ⌝ }
-    requires { ⌜ (length (now widths) ≡ widthWords) × (s .levels ≤ widthWords) ⌝ }
-    requires { ⌜ (write ≡ true → RoomIn (readLine 16 (stateOf s (now widths)) (now line)) k (length (now tokens))) ⌝ }
-    ensures { λ r. ⌜ countedOf r (now (widths .exit)) ≡ counted (readLine 16 (stateOf s (now (widths .entry))) (now (line .entry))) ⌝ }
+    requires { ⌜ (length (now widths) ≡ widthWords) × (s .levels ≤ widthWords) × (limits .levels ≤ widthWords) ⌝ }
+    requires { ⌜ (write ≡ true → RoomIn (readLine (lineLimitsOf limits) (stateOf s (now widths)) (now line)) k (length (now tokens))) ⌝ }
+    ensures { λ r. ⌜ countedOf r (now (widths .exit)) ≡ counted (readLine (lineLimitsOf limits) (stateOf s (now (widths .entry))) (now (line .entry))) ⌝ }
     ensures { λ r. ⌜ LevelsWithin r ⌝ }
-    ensures { λ _. ⌜ now (widths .exit) ≡ widthsAfter (levelsOf 16 (stateOf s (now (widths .entry))) (now (line .entry))) (now (widths .entry)) ⌝ }
-    ensures { λ _. ⌜ now (tokens .exit) ≡ putIf write (now (tokens .entry)) (tokenSize * k) (tokenWords position number (tokensIn (readLine 16 (stateOf s (now (widths .entry))) (now (line .entry))))) ⌝ }
+    ensures { λ _. ⌜ now (widths .exit) ≡ widthsAfter (levelsOf (lineLimitsOf limits) (stateOf s (now (widths .entry))) (now (line .entry))) (now (widths .entry)) ⌝ }
+    ensures { λ _. ⌜ now (tokens .exit) ≡ putIf write (now (tokens .entry)) (tokenSize * k) (tokenWords position number (tokensIn (readLine (lineLimitsOf limits) (stateOf s (now (widths .entry))) (now (line .entry))))) ⌝ }
 {
     let depth = s.depth;
     let spaces = leading_spaces(reach, line);
@@ -617,7 +630,7 @@ pub fn read_line(
         position: position,
         number: number,
     };
-    match levels_of(line, spaces, s, widths) {
+    match levels_of(limits, line, spaces, s, widths) {
         Compared::Levels(lead) => cut_after(
             class,
             reach,
@@ -637,6 +650,6 @@ pub fn read_line(
             at: 0,
             size: leading_indent_bytes(line),
         }),
-        Compared::TooDeep => LineRead::TooDeep,
+        Compared::Beyond(refusal) => LineRead::OverLimit(refusal),
     }
 }

@@ -10,6 +10,7 @@ use lib.ListN.{length, take, drop, length-append, length-drop, length-take}
 use lib.Seq.{length-take-le}
 use borrow.Author.Tests.{ltb-true, ltb-false}
 use Rattle.rules.specs.Lists.{if_then_else_, run}
+use Rattle.rules.specs.Limits.{LineLimits}
 use Rattle.rules.specs.Line as rules-line
 use Rattle.rules.specs.Line.{initial, Token, Halt, failed, overLimit, LineReply, lineReads, lineHalts, readLine}
 use Rattle.rules.specs.Reading.{notLF, Entry, entry, tokenSum, lineAt, sizeAt}
@@ -46,8 +47,8 @@ module _ (r : LineRead) (widths : List ℕ) (x : LineReply) (e : countedOf r wid
   pub line-fails : (f : cut-failure.Failure) → r ≡ line-variants.Fails f → x ≡ lineHalts (failed (failureOf f))
   line-fails f q = counted-halts x (failed (failureOf f)) (ap (λ (y : LineRead). countedOf y widths) (sym q) ∙ e)
 
-  pub line-deep : r ≡ line-variants.TooDeep → x ≡ lineHalts overLimit
-  line-deep q = counted-halts x overLimit (ap (λ (y : LineRead). countedOf y widths) (sym q) ∙ e)
+  pub line-over : (number : ℕ) → r ≡ line-variants.OverLimit number → x ≡ lineHalts (overLimit number)
+  line-over number q = counted-halts x (overLimit number) (ap (λ (y : LineRead). countedOf y widths) (sym q) ∙ e)
 
 -- the next line's start
 pub next-start : (t : List ℕ) (p end : ℕ) → p < length t → end ≡ p + run notLF (drop p t) → (if ltb end (length t) then suc end else end) ≡ p + sizeAt t p
@@ -61,20 +62,20 @@ pub slice-is : (t : List ℕ) (p end : ℕ) → end ≡ p + run notLF (drop p t)
 slice-is t p end e = let n : end - p ≡ run notLF (drop p t) = omega arith in ap (λ (i : ℕ). take i (drop p t)) n
 
 -- Reading t from the state z₀ has come to byte p, past m lines es and k tokens, in the state s with these widths.
-pub record PassTo (t : List ℕ) (z₀ : rules-line.State) (es : List Entry) (widths : List ℕ) (p m k : ℕ) (s : State) : Type 0 where
-  pub to : ReadTo 16 z₀ t p es (stateOf s widths)
+pub record PassTo (lim : LineLimits) (t : List ℕ) (z₀ : rules-line.State) (es : List Entry) (widths : List ℕ) (p m k : ℕ) (s : State) : Type 0 where
+  pub to : ReadTo lim z₀ t p es (stateOf s widths)
   pub inside : p ≤ length t
   pub count : length es ≡ m
   pub sum : tokenSum es ≡ k
   pub few : s .levels ≤ widthWords
   pub wide : length widths ≡ widthWords
 
-pub pass-start : (t widths : List ℕ) (s : State) → s .levels ≤ widthWords → length widths ≡ widthWords → PassTo t (stateOf s widths) [] widths 0 0 0 s
+pub pass-start : (lim : LineLimits) (t widths : List ℕ) (s : State) → s .levels ≤ widthWords → length widths ≡ widthWords → PassTo lim t (stateOf s widths) [] widths 0 0 0 s
 unfolding tokenSum
-pass-start t widths s few wide =
-    record { to = read-start 16 (stateOf s widths) t; inside = omega arith; count = refl; sum = refl; few = few; wide = wide }
+pass-start lim t widths s few wide =
+    record { to = read-start lim (stateOf s widths) t; inside = omega arith; count = refl; sum = refl; few = few; wide = wide }
 
-module _ {t : List ℕ} {z₀ : rules-line.State} {es : List Entry} {widths : List ℕ} {p m k : ℕ} {s : State} (v : PassTo t z₀ es widths p m k s) where
+module _ {lim : LineLimits} {t : List ℕ} {z₀ : rules-line.State} {es : List Entry} {widths : List ℕ} {p m k : ℕ} {s : State} (v : PassTo lim t z₀ es widths p m k s) where
   abbrev z : rules-line.State
   z = stateOf s widths
 
@@ -82,7 +83,7 @@ module _ {t : List ℕ} {z₀ : rules-line.State} {es : List Entry} {widths : Li
   levels-are = length-take-le (s .levels) widths (omega (arith, v .few, v .wide))
 
   pub grown : GrownTo z₀ p es z
-  grown = read-grown 16 z₀ t p es z (v .to)
+  grown = read-grown lim z₀ t p es z (v .to)
 
   module _ (h : p < length t) where
     pub size-inside : (0 < sizeAt t p) × (p + sizeAt t p ≤ length t)
@@ -92,13 +93,13 @@ module _ {t : List ℕ} {z₀ : rules-line.State} {es : List Entry} {widths : Li
     line-inside = omega (arith, length-take (run notLF (drop p t)) (drop p t), length-drop p t)
 
     -- the next line is read
-    pub next-pass : (ts : List Token) (s′ : State) (widths′ : List ℕ) (n q : ℕ) → readLine 16 z (lineAt t p) ≡ lineReads ts (stateOf s′ widths′) → n ≡ length ts → q ≡ p + sizeAt t p
-        → s′ .levels ≤ widthWords → length widths′ ≡ widthWords → PassTo t z₀ (es ++ (entry z (sizeAt t p) ts ∷ [])) widths′ q (m + 1) (k + n) s′
+    pub next-pass : (ts : List Token) (s′ : State) (widths′ : List ℕ) (n q : ℕ) → readLine lim z (lineAt t p) ≡ lineReads ts (stateOf s′ widths′) → n ≡ length ts → q ≡ p + sizeAt t p
+        → s′ .levels ≤ widthWords → length widths′ ≡ widthWords → PassTo lim t z₀ (es ++ (entry z (sizeAt t p) ts ∷ [])) widths′ q (m + 1) (k + n) s′
     unfolding tokenSum
     next-pass ts s′ widths′ n q e hn hq few′ wide′ =
         let x : Entry = entry z (sizeAt t p) ts in
         record {
-          to = subst (λ (y : ℕ). ReadTo 16 z₀ t y (es ++ (x ∷ [])) (stateOf s′ widths′)) (sym hq) (read-line 16 z₀ t p es z (v .to) ts (stateOf s′ widths′) h e);
+          to = subst (λ (y : ℕ). ReadTo lim z₀ t y (es ++ (x ∷ [])) (stateOf s′ widths′)) (sym hq) (read-line lim z₀ t p es z (v .to) ts (stateOf s′ widths′) h e);
           inside = omega (arith, size-inside .1);
           count = omega (arith, length-append es (x ∷ []), v .count);
           sum = omega (arith, tokenSum-append es (x ∷ []), v .sum);
@@ -107,8 +108,8 @@ module _ {t : List ℕ} {z₀ : rules-line.State} {es : List Entry} {widths : Li
         }
 
 -- how far a reading from the first state has come
-pub small : {t : List ℕ} {es : List Entry} {widths : List ℕ} {p m k : ℕ} {s : State} → PassTo t initial es widths p m k s → length t ≤ 1_048_576
+pub small : {lim : LineLimits} {t : List ℕ} {es : List Entry} {widths : List ℕ} {p m k : ℕ} {s : State} → PassTo lim t initial es widths p m k s → lim .levels ≤ 16 → length t ≤ 1_048_576
     → (m ≤ p) × (k + s .levels ≤ 2 * p) × (s .depth ≤ 4_194_304)
-small {t} {es} {widths} {p} {m} {k} {s} v h =
-    let b = read-small t p es (stateOf s widths) h (v .inside) (v .to) in
+small {lim} {t} {es} {widths} {p} {m} {k} {s} v room h =
+    let b = read-small lim room t p es (stateOf s widths) h (v .inside) (v .to) in
     (omega (arith, b .lines, v .count), omega (arith, b .tokens, v .sum, levels-are v), b .state .depth)

@@ -4,31 +4,15 @@ use Prim.Native.Nat.{ℕ, _≤_}
 use mathlib.Core.Path.{_≡_}
 use mathlib.Core.List.{List}
 use lib.ListN.{length}
-use Rattle.rules.specs.Failure as rules-failure
-use Rattle.rules.specs.Failure.{failureRecord}
-use Rattle.rules.specs.Line.{Token, failed, overLimit, LineReply, lineReads, lineHalts}
-use Rattle.rules.specs.Records.{widthWords}
+use Rattle.rules.specs.Line.{Token, Halt, LineReply, lineReads, lineHalts}
+use Rattle.rules.specs.Records.{widthWords, haltRefusal}
+use Rattle.refusals.specs.Unreads.{unreadIn}
 use Rattle.records.specs.States.{stateOf}
-use Rattle.lines.specs.declared.FailureRecord.{FailureRecord}
 use Rattle.lines.specs.declared.Step.{Step}
-use Rattle.lines.specs.declared.Step.the-variants.{Reads, Fails, TooDeep}
-
-abbrev pub recordIn : rules-failure.FailureRecord → FailureRecord
-recordIn f =
-    record {
-      code = f .code;
-      detail = f .detail;
-      found = f .found;
-      position = f .position;
-      line = f .line;
-      column = f .column;
-      from = f .from;
-      to = f .to;
-    }
+use Rattle.lines.specs.declared.Step.the-variants.{Reads, Refused}
 
 -- a line's reply, for the line with this number that starts at this byte: with the widths left, where the next one starts, the number
--- of tokens and the state; or the failure's record; or a level too many
+-- of tokens and the state; or why it does not read
 abbrev pub StepIs : (widths : List ℕ) (start number next : ℕ) → LineReply → Step → Type 0
 StepIs ws p l next x (Reads q n s) = (ts : List Token) × (x ≡ lineReads ts (stateOf s ws)) × (n ≡ length ts) × (q ≡ next) × (s .levels ≤ widthWords)
-StepIs ws p l next x (Fails r) = (f : rules-failure.Failure) × (x ≡ lineHalts (failed f)) × (r ≡ recordIn (failureRecord p l f))
-StepIs ws p l next x TooDeep = x ≡ lineHalts overLimit
+StepIs ws p l next x (Refused u) = (h : Halt) × (x ≡ lineHalts h) × (u ≡ unreadIn (haltRefusal p l h))

@@ -17,19 +17,9 @@ ghost use Rattle.cut.specs.Cuts.{failureOf};
 ghost use Rattle.records.specs.States.{stateOf};
 ghost use Rattle.line.specs.LineCuts.{tokensIn, RoomIn};
 ghost use Rattle.laws.specs.Puts.{putIf};
-ghost use Rattle.lines.specs.Steps.{recordIn, StepIs};
-
-// A failure's record.
-pub struct FailureRecord {
-    pub code: u32,
-    pub detail: u32,
-    pub found: u32,
-    pub position: u32,
-    pub line: u32,
-    pub column: u32,
-    pub from: u32,
-    pub to: u32,
-}
+ghost use Rattle.refusals.specs.Limits.{lineLimitsOf};
+ghost use Rattle.refusals.specs.Unreads.{recordIn};
+ghost use Rattle.lines.specs.Steps.{StepIs};
 
 // Where the line from `at` on ends: at its LF or at the end of the text.
 pub fn line_end(text: &[u8], at: usize) -> usize
@@ -54,12 +44,12 @@ fn code_of(detail: u32) -> u32
 }
 
 // The record of a failure in the line that starts at `start` and has this number.
-pub fn failure_record(f: cut::Failure, start: usize, number: usize) -> FailureRecord
+pub fn failure_record(f: cut::Failure, start: usize, number: usize) -> refusals::FailureRecord
     requires { ⌜ (start + (f .at + f .size) ≤ 1_048_576) × (number ≤ 1_048_577) ⌝ }
     ensures { λ r. ⌜ r ≡ recordIn (failureRecord start number (failureOf f)) ⌝ }
 {
     let position = (start + f.at) as u32;
-    FailureRecord {
+    refusals::FailureRecord {
         code: code_of(f.detail),
         detail: f.detail,
         found: f.found,
@@ -81,11 +71,10 @@ pub fn past_lf(text: &[u8], end: usize) -> usize
     end
 }
 
-// What the next line gives: where the one after it starts, the number of its tokens, the state after it; or its failure; or a level too many.
+// What the next line gives: where the one after it starts, the number of its tokens, the state after it; or why it does not read.
 pub enum Step {
     Reads(usize, usize, records::State),
-    Fails(FailureRecord),
-    TooDeep,
+    Refused(refusals::Unread),
 }
 
 // The line at `at` of a text that begins at byte `base` of the whole: where the pass writes, its record m and its tokens from k on.
@@ -103,6 +92,7 @@ pub fn next_line(
     write: bool,
     m: usize,
     k: usize,
+    limits: refusals::LineLimits,
     widths: &mut [u32],
     s: records::State,
 ) -> Step
@@ -112,11 +102,11 @@ pub fn next_line(
     requires { ⌜ now signs ≡ signTable ⌝ }
     requires { ⌜ now keywords ≡ keywordTable ⌝ }
     requires { ⌜ (at < length (now text)) × ((base + length (now text) ≤ 1_048_576) × ((m ≤ 1_048_576) × (k ≤ 3_000_000))) ⌝ }
-    requires { ⌜ (s .depth ≤ 4_194_304) × ((s .levels ≤ widthWords) × (length (now widths) ≡ widthWords)) ⌝ }
-    requires { ⌜ (write ≡ true → (lineSize * m + lineSize ≤ length (now lines)) × RoomIn (readLine 16 (stateOf s (now widths)) (lineAt (now text) at)) k (length (now tokens))) ⌝ }
-    ensures { λ r. ⌜ StepIs (now (widths .exit)) (base + at) (m + 1) (at + sizeAt (now (text .entry)) at) (readLine 16 (stateOf s (now (widths .entry))) (lineAt (now (text .entry)) at)) r ⌝ }
+    requires { ⌜ (s .depth ≤ 4_194_304) × ((s .levels ≤ widthWords) × (length (now widths) ≡ widthWords) × (limits .levels ≤ 16)) ⌝ }
+    requires { ⌜ (write ≡ true → (lineSize * m + lineSize ≤ length (now lines)) × RoomIn (readLine (lineLimitsOf limits) (stateOf s (now widths)) (lineAt (now text) at)) k (length (now tokens))) ⌝ }
+    ensures { λ r. ⌜ StepIs (now (widths .exit)) (base + at) (m + 1) (at + sizeAt (now (text .entry)) at) (readLine (lineLimitsOf limits) (stateOf s (now (widths .entry))) (lineAt (now (text .entry)) at)) r ⌝ }
     ensures { λ _. ⌜ now (lines .exit) ≡ putIf write (now (lines .entry)) (lineSize * m) (lineRecord (base + at) k (stateOf s (now (widths .entry)))) ⌝ }
-    ensures { λ _. ⌜ now (tokens .exit) ≡ putIf write (now (tokens .entry)) (tokenSize * k) (tokenWords (base + at) (m + 1) (tokensIn (readLine 16 (stateOf s (now (widths .entry))) (lineAt (now (text .entry)) at)))) ⌝ }
+    ensures { λ _. ⌜ now (tokens .exit) ≡ putIf write (now (tokens .entry)) (tokenSize * k) (tokenWords (base + at) (m + 1) (tokensIn (readLine (lineLimitsOf limits) (stateOf s (now (widths .entry))) (lineAt (now (text .entry)) at)))) ⌝ }
 {
     let position = base + at;
     records::put_line(lines, write, m, position as u32, k as u32, s, widths);
@@ -133,11 +123,16 @@ pub fn next_line(
         k,
         position as u32,
         m as u32 + 1,
+        limits,
         widths,
         s,
     ) {
         line::LineRead::Reads(n, next) => Step::Reads(past_lf(text, end), n, next),
-        line::LineRead::Fails(f) => Step::Fails(failure_record(f, position, m + 1)),
-        line::LineRead::TooDeep => Step::TooDeep,
+        line::LineRead::Fails(f) => {
+            Step::Refused(refusals::Unread::Fails(failure_record(f, position, m + 1)))
+        }
+        line::LineRead::OverLimit(refusal) => {
+            Step::Refused(refusals::Unread::AtLine(refusal, m + 1))
+        }
     }
 }

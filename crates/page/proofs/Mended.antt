@@ -9,7 +9,7 @@ use lib.ListN.{length, take, drop, length-append, length-drop, take-append-drop}
 use lib.Seq.{take-take, drop-append-le, length-take-le}
 use Rattle.rules.specs.Line.{State}
 use Rattle.rules.specs.Reading.{Entry, byteSum, tokenSum}
-use Rattle.rules.specs.Replies.{barge}
+use Rattle.rules.specs.Limits.{bargeLine}
 use Rattle.rules.specs.Records.{lineSize, tokenSize, lineNeed, tokenNeed, lineRecords, tokenRecords, endEntry, withEnd, Records, recordsOf, recordedBy, recorded, readLines, Behind}
 use Rattle.rules.specs.Page.{pageText, pageRecords}
 use Rattle.rules.specs.StopRule.{Edit, edited}
@@ -29,7 +29,7 @@ cut-tail : (ws front : List ℕ) (n at : ℕ) → take n ws ≡ front → at ≤
 cut-tail ws front n at e h =
     ap (drop at) (sym (take-append-drop n ws)) ∙ ap (λ (x : List ℕ). drop at (x ++ drop n ws)) e ∙ drop-append-le at front (drop n ws) h
 
-module _ (n m k : ℕ) (text lines tokens : List ℕ) (ed : Edit) (bh : Behind (take n text) (pageRecords (page n m k text lines tokens)))
+module _ (n m k : ℕ) (text lines tokens : List ℕ) (ed : Edit) (bh : Behind bargeLine (take n text) (pageRecords (page n m k text lines tokens)))
     (small : length (edited (take n text) ed) ≤ 1_048_576) (p : Plan) (pl : Planned (edited (take n text) ed) lines m k p)
     (x : Mends (take n text) lines (bh .entries) (bh .end) ed p) where
   abbrev u : List ℕ
@@ -74,7 +74,7 @@ module _ (n m k : ℕ) (text lines tokens : List ℕ) (ed : Edit) (bh : Behind (
 
   small-records : Small (recordsOf (x .entries) (x .last))
   unfolding readLines recordedBy
-  small-records = fresh-small u (recordsOf (x .entries) (x .last)) small (ap (recordedBy barge) (x .reads-are))
+  small-records = fresh-small bargeLine (omega arith) u (recordsOf (x .entries) (x .last)) small (ap recordedBy (x .reads-are))
 
   -- Line records.
 

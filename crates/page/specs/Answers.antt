@@ -2,14 +2,14 @@
 -- Assumes nothing.
 use Prim.Native.Nat.{ℕ}
 use mathlib.Core.List.{List, [], _∷_}
-use Rattle.rules.specs.Replies.{Reply, textBuffer, spareBuffer, linesBuffer, tokensBuffer}
+use Rattle.rules.specs.Replies.{Reply, numberedUnread, textBuffer, spareBuffer, linesBuffer, tokensBuffer}
 use Rattle.rules.specs.Records.{Header, header}
 use Rattle.rules.specs.Page.{Lent, headerAfter}
-use Rattle.reading.specs.Answers.{failureNumbers}
+use Rattle.refusals.specs.Unreads.{unreadOf}
 use Rattle.page.specs.declared.FreshAnswer.{FreshAnswer}
 use Rattle.page.specs.declared.FreshAnswer.the-variants as fresh-variants
 use Rattle.page.specs.declared.EditAnswer.{EditAnswer}
-use Rattle.page.specs.declared.EditAnswer.the-variants.{Edited, TooLong, Malformed, Fails, TooDeep, ShortText, ShortSpare, ShortLines, ShortTokens, Outside, Unfit}
+use Rattle.page.specs.declared.EditAnswer.the-variants.{Edited, Refused, ShortText, ShortSpare, ShortLines, ShortTokens, Outside, Unfit}
 
 abbrev pub freshNumbers : FreshAnswer → Reply
 freshNumbers fresh-variants.Fresh = 0 ∷ 0 ∷ 0 ∷ 0 ∷ []
@@ -17,10 +17,7 @@ freshNumbers (fresh-variants.ShortLines n) = 5 ∷ linesBuffer ∷ n ∷ []
 
 abbrev pub editNumbers : EditAnswer → Reply
 editNumbers (Edited n m k count) = 0 ∷ n ∷ m ∷ k ∷ count ∷ []
-editNumbers (TooLong n) = 1 ∷ n ∷ []
-editNumbers (Malformed n) = 2 ∷ n ∷ []
-editNumbers (Fails f) = 3 ∷ failureNumbers f
-editNumbers (TooDeep l) = 4 ∷ l ∷ []
+editNumbers (Refused u) = numberedUnread (unreadOf u)
 editNumbers (ShortText n) = 5 ∷ textBuffer ∷ n ∷ []
 editNumbers (ShortSpare n) = 5 ∷ spareBuffer ∷ n ∷ []
 editNumbers (ShortLines n) = 5 ∷ linesBuffer ∷ n ∷ []

@@ -36,13 +36,11 @@ pub fn fresh(lines: &mut [u32]) -> FreshAnswer
     FreshAnswer::Fresh
 }
 
-// The answer of `edit`: bytes, lines, tokens and the re-read count; or a refusal, 1 to 7, with 5 for one of four buffers.
+// The answer of `edit`: bytes, lines, tokens and the re-read count; or why the edited text is refused by itself, 5 for one of four
+// buffers with its least length, 6 or 7.
 pub enum EditAnswer {
     Edited(usize, usize, usize, usize),
-    TooLong(usize),
-    Malformed(usize),
-    Fails(lines::FailureRecord),
-    TooDeep(usize),
+    Refused(refusals::Unread),
     ShortText(usize),
     ShortSpare(usize),
     ShortLines(usize),
@@ -111,9 +109,11 @@ fn edit_text(
     ensures { λ r. ⌜ EditPost (lent (header n m k) (now (text .entry)) (now (spare .entry)) (now (lines .entry)) (now (tokens .entry))) (editOf a b (now (w .entry))) (editNumbers r) (lentAfter (header n m k) (editNumbers r) (now (text .exit)) (now (spare .exit)) (now (lines .exit)) (now (tokens .exit))) ⌝ }
 {
     moving::splice(text, spare, n as usize, a, b, w);
-    let good = utf8::well_formed_prefix(&spare[..size]);
-    if good < size {
-        return EditAnswer::Malformed(good);
+    if let refusals::TextTest::Refused(u) = refusals::test_text(
+        refusals::barge_limits(),
+        &spare[..size],
+    ) {
+        return EditAnswer::Refused(u);
     }
     match planning::plan_edit(n, m, k, text, lines, tokens, &spare[..size], a, b, w) {
         planning::PlanAnswer::Writes(p) => write_edit(
@@ -127,8 +127,7 @@ fn edit_text(
             size,
             p,
         ),
-        planning::PlanAnswer::Fails(f) => EditAnswer::Fails(f),
-        planning::PlanAnswer::TooDeep(number) => EditAnswer::TooDeep(number),
+        planning::PlanAnswer::Refused(u) => EditAnswer::Refused(u),
         planning::PlanAnswer::ShortLines(least) => EditAnswer::ShortLines(least),
         planning::PlanAnswer::ShortTokens(least) => EditAnswer::ShortTokens(least),
         planning::PlanAnswer::Unfit => EditAnswer::Unfit,
@@ -160,8 +159,9 @@ pub fn edit(
         return EditAnswer::Outside;
     }
     let size = edited_length(n as usize, a, b, w.len());
-    if 1_048_576 < size {
-        return EditAnswer::TooLong(size);
+    let limits = refusals::barge_limits();
+    if limits.bytes < size {
+        return EditAnswer::Refused(refusals::Unread::TooLong(limits.long, size));
     }
     if text.len() < size {
         return EditAnswer::ShortText(size);

@@ -6,12 +6,12 @@ ghost use lib.Seq.{sets};
 ghost use Rattle.reading.specs.Answers.{readNumbers};
 ghost use Rattle.report.specs.Answers.{reportNumbers};
 ghost use Rattle.page.specs.Answers.{freshNumbers, editNumbers};
-use replies::put_failure;
 use replies::put_five;
 use replies::put_four;
 use replies::put_one;
 use replies::put_three;
 use replies::put_two;
+use replies::put_unread;
 
 // The answer of `read`.
 pub fn put_read(reply: &mut [u64; 16], r: reading::ReadAnswer) -> u64
@@ -20,10 +20,7 @@ pub fn put_read(reply: &mut [u64; 16], r: reading::ReadAnswer) -> u64
 {
     match r {
         reading::ReadAnswer::Records(n, m, k) => put_four(reply, 0, n as u64, m as u64, k as u64),
-        reading::ReadAnswer::TooLong(n) => put_two(reply, 1, n as u64),
-        reading::ReadAnswer::Malformed(n) => put_two(reply, 2, n as u64),
-        reading::ReadAnswer::Fails(f) => put_failure(reply, f),
-        reading::ReadAnswer::TooDeep(l) => put_two(reply, 4, l as u64),
+        reading::ReadAnswer::Refused(u) => put_unread(reply, u),
         reading::ReadAnswer::ShortLines(n) => put_three(reply, 5, 3, n as u64),
         reading::ReadAnswer::ShortTokens(n) => put_three(reply, 5, 4, n as u64),
     }
@@ -36,9 +33,7 @@ pub fn put_report(reply: &mut [u64; 16], r: report::ReportAnswer) -> u64
 {
     match r {
         report::ReportAnswer::Message(n) => put_two(reply, 0, n as u64),
-        report::ReportAnswer::TooLong(n) => put_two(reply, 1, n as u64),
-        report::ReportAnswer::Malformed(n) => put_two(reply, 2, n as u64),
-        report::ReportAnswer::TooDeep(l) => put_two(reply, 4, l as u64),
+        report::ReportAnswer::Refused(u) => put_unread(reply, u),
         report::ReportAnswer::ShortOut(n) => put_three(reply, 5, 5, n as u64),
     }
 }
@@ -63,10 +58,7 @@ pub fn put_edit(reply: &mut [u64; 16], r: page::EditAnswer) -> u64
         page::EditAnswer::Edited(n, m, k, count) => {
             put_five(reply, 0, n as u64, m as u64, k as u64, count as u64)
         }
-        page::EditAnswer::TooLong(n) => put_two(reply, 1, n as u64),
-        page::EditAnswer::Malformed(n) => put_two(reply, 2, n as u64),
-        page::EditAnswer::Fails(f) => put_failure(reply, f),
-        page::EditAnswer::TooDeep(l) => put_two(reply, 4, l as u64),
+        page::EditAnswer::Refused(u) => put_unread(reply, u),
         page::EditAnswer::ShortText(n) => put_three(reply, 5, 1, n as u64),
         page::EditAnswer::ShortSpare(n) => put_three(reply, 5, 2, n as u64),
         page::EditAnswer::ShortLines(n) => put_three(reply, 5, 3, n as u64),

@@ -13,7 +13,9 @@ use borrow.Author.Tests.{lt-ltb, le-ltb, ltb-true, ltb-false}
 use Rattle.rules.specs.Lists.{if_then_else_}
 use Rattle.rules.specs.Line.{State, initial, tokenAt, Halt, failed, overLimit}
 use Rattle.rules.specs.Reading.{linesOf, countLF, Entry, Reading, reads, halts, readFrom, byteSum, tokenSum, stateAt}
-use Rattle.rules.specs.Replies.{maxBytes, maxLevels, barge, lexical, atLine, reading, short, linesBuffer, tokensBuffer, refusedIf, firstOf, unless, isTooLong}
+use Rattle.rules.specs.Limits.{maxBytes, maxLevels, barge, bargeLine}
+use Rattle.rules.specs.Replies as rules-replies
+use Rattle.rules.specs.Replies.{reading, short, linesBuffer, tokensBuffer, refusedIf, firstOf, unless, isTooLong}
 use Rattle.rules.specs.Records.{widthWords, lineSize, tokenSize, lineNeed, tokenNeed, stateWords, lineRecords, endEntry, withEnd, Records, recordsOf, recordTests, haltRefusal, recordedBy, recorded, unread, readLines, Behind}
 use Rattle.rules.specs.Page.{Page, pageText, pageRecords, Faithful}
 use Rattle.rules.specs.StopRule.{Edit, edited, rereadCount}
@@ -22,22 +24,26 @@ use Rattle.rules.proofs.LineLaws.{total, drop-lines}
 use Rattle.rules.proofs.ReadingLaws.{parts, read-sizes, byteSum-append, tokenSum-append}
 use Rattle.rules.proofs.RecordLaws.{behind}
 use Rattle.rules.proofs.EditedLaws.{length-edited}
+use Rattle.rules.proofs.LimitLaws.{HaltNumbered, halt-numbered}
 use Rattle.rules.proofs.MendLaws.{kept-size, kept-length}
 use Rattle.rules.proofs.LoopLaws.{ReadTo, with-end}
 use Rattle.rules.proofs.BoundLaws.{fresh-small, read-grown}
 use Rattle.rules.proofs.PageLaws.{Fits, page-length, fresh-inverse}
 use Rattle.rereading.specs.Rereads.{Old, Lines, RereadIs}
 use Rattle.rereading.specs.declared.Reread.{Reread}
-use Rattle.rereading.specs.declared.Reread.the-variants.{Stops, Ends, Fails, TooDeep}
-use Rattle.lines.specs.declared.FailureRecord.{FailureRecord}
+use Rattle.rereading.specs.declared.Reread.the-variants.{Stops, Ends, Refused}
+use Rattle.refusals.specs.Unreads.{unreadIn, unreadOf}
+use Rattle.refusals.specs.declared.Unread.{Unread}
+use Rattle.refusals.proofs.Tests.{unread-back}
 use Rattle.records.specs.declared.State as line-state
 use Rattle.records.proofs.Words.{state-words, state-from}
-use Rattle.rereading.proofs.Rereads.{fails-whole, deep-whole}
+use Rattle.rereading.proofs.Rereads.{halts-whole}
 use Rattle.rereading.proofs.OldLines.{start-is, first-is, state-is, levels-at}
 use Rattle.records.specs.Words.{lineWord, stateFrom}
 use Rattle.planning.specs.Starts.{isUsable}
-use Rattle.planning.specs.Plans.{linesAfter, tokensAfter, roomed, beginLine, stopPlan, stopAnswer, endPlan, newLines, plannedLines, ReadsAs, Planned, Mends, recordOut, OnPaper, PlanIs}
+use Rattle.planning.specs.Plans.{linesAfter, tokensAfter, roomed, beginLine, stopPlan, stopAnswer, endPlan, newLines, plannedLines, ReadsAs, Planned, Mends, LineRefusal, OnPaper, PlanIs}
 use Rattle.planning.specs.declared.Plan.{Plan}
+use Rattle.planning.specs.declared.PlanAnswer.the-variants as answers
 use Rattle.planning.specs.declared.PlanAnswer.the-variants.{Writes, ShortLines, ShortTokens, Unfit}
 use Rattle.planning.proofs.Starts.{Usable, true-usable}
 use Rattle.planning.proofs.Begins.{Begun, begin-at}
@@ -110,7 +116,7 @@ module _ {pg : Page} {ed : Edit} (ok : Editable pg ed) where
   edited-holds = omega (arith, length-edited t ed (omega (arith, long)))
 
   -- The lines behind a faithful page.
-  module _ (bh : Behind t (pageRecords pg)) where
+  module _ (bh : Behind bargeLine t (pageRecords pg)) where
     abbrev es : List Entry
     es = bh .entries
 
@@ -137,7 +143,7 @@ module _ {pg : Page} {ed : Edit} (ok : Editable pg ed) where
     lines-are = ap (λ (r : Records). r .lines) (bh .records-are)
 
     i-le : countLF (take a t) ≤ m
-    i-le = omega (arith, kept-length maxLevels t es end (bh .reads-are) ed ha, length-take (countLF (take a t)) es, m-is)
+    i-le = omega (arith, kept-length bargeLine t es end (bh .reads-are) ed ha, length-take (countLF (take a t)) es, m-is)
 
     start-of : (x : ℕ) → x ≤ m → lineWord lines x 0 ≡ byteSum (take x es)
     start-of x h = ap (λ (y : ℕ). getD lines y 0) (add-zero (lineSize * x)) ∙ start-is lines m es end m-is lines-are x h
@@ -147,12 +153,12 @@ module _ {pg : Page} {ed : Edit} (ok : Editable pg ed) where
 
     state-of : (x : ℕ) → x ≤ m → stateFrom lines x ≡ stateAt es end x
     state-of x h =
-        state-from lines x (stateAt es end x) (omega (arith, ok .fits .lines)) (levels-at t es end (bh .reads-are) x) (state-is lines m es end m-is lines-are x h)
+        state-from lines x (stateAt es end x) (omega (arith, ok .fits .lines)) (levels-at bargeLine t es end (bh .reads-are) (omega arith) x) (state-is lines m es end m-is lines-are x h)
 
     -- a reading of the first x lines
-    read-at : (x : ℕ) → ReadTo maxLevels initial t (byteSum (take x es)) (take x es) (stateAt es end x)
+    read-at : (x : ℕ) → ReadTo bargeLine initial t (byteSum (take x es)) (take x es) (stateAt es end x)
     read-at x =
-        let p = parts maxLevels x initial (linesOf t) es end (bh .reads-are) in
+        let p = parts bargeLine x initial (linesOf t) es end (bh .reads-are) in
         record {
           lines = take x (linesOf t);
           split = sym (take-append-drop x (linesOf t)) ∙ ap (λ (y : List (List ℕ)). take x (linesOf t) ++ y) (drop-lines x t ∙ ap (λ (i : ℕ). linesOf (drop i t)) (p .sizes));
@@ -167,7 +173,7 @@ module _ {pg : Page} {ed : Edit} (ok : Editable pg ed) where
         let q = sym w ∙ state-is lines m es end m-is lines-are x h in
         let l : getD lines (lineSize * x + 2 + 2) 0 ≡ length (stateAt es end x .widths) = cc in
         let n4 : lineSize * x + 4 ≡ lineSize * x + 2 + 2 = omega arith in
-        omega (arith, ap (λ (y : ℕ). getD lines y 0) n4, l, levels-at t es end (bh .reads-are) x)
+        omega (arith, ap (λ (y : ℕ). getD lines y 0) n4, l, levels-at bargeLine t es end (bh .reads-are) (omega arith) x)
 
     -- the record where reading again begins passes the tests
     module _ (i : ℕ) (e : i ≡ countLF (take a t)) where
@@ -176,14 +182,14 @@ module _ {pg : Page} {ed : Edit} (ok : Editable pg ed) where
 
       pub usable-of : isUsable lines i k a ≡ true
       usable-of =
-          let g = read-grown maxLevels initial t (byteSum (take i es)) (take i es) (stateAt es end i) (read-at i) in
+          let g = read-grown bargeLine initial t (byteSum (take i es)) (take i es) (stateAt es end i) (read-at i) in
           let s = start-of i within in
           let z = state-of i within in
           let d : lineWord lines i 2 ≡ stateAt es end i .depth = ap (λ (y : State). y .depth) z in
           let c : length (take i es) ≡ i = length-take-le i es (omega (arith, within, m-is)) in
           let g2 : stateAt es end i .depth ≤ 0 + byteSum (take i es) = g .depth in
           true-usable lines i k a record {
-            start = omega (arith, s, kept-size maxLevels t es end (bh .reads-are) ed ha, ap (λ (x : ℕ). byteSum (take x es)) e);
+            start = omega (arith, s, kept-size bargeLine t es end (bh .reads-are) ed ha, ap (λ (x : ℕ). byteSum (take x es)) e);
             number = omega (arith, s, g .lines, c);
             first = omega (arith, first-of i within, k-is, take-sum i es, tokenSum-append es (endEntry end ∷ []));
             depth = omega (arith, s, d, g2);
@@ -191,7 +197,7 @@ module _ {pg : Page} {ed : Edit} (ok : Editable pg ed) where
           }
 
       -- what reading again knows of the page
-      pub old-of : Old (drop (lineWord lines i 0) u) lines (lineWord lines i 0) i m i b (a + length w) (stateFrom lines i)
+      pub old-of : Old bargeLine (drop (lineWord lines i 0) u) lines (lineWord lines i 0) i m i b (a + length w) (stateFrom lines i)
       old-of =
           let bi : lineWord lines i 0 ≡ byteSum (take (countLF (take a t)) es) = start-of i within ∙ ap (λ (x : ℕ). byteSum (take x es)) e in
           record {
@@ -216,26 +222,26 @@ module _ {pg : Page} {ed : Edit} (ok : Editable pg ed) where
 
   -- A faithful page has lines behind it, and begins within them.
 
-  pub faithful-behind : Faithful pg → Behind t (pageRecords pg)
-  faithful-behind h = behind t (pageRecords pg) (fresh-inverse t (pageRecords pg) h .2)
+  pub faithful-behind : Faithful pg → Behind bargeLine t (pageRecords pg)
+  faithful-behind h = behind bargeLine t (pageRecords pg) (fresh-inverse t (pageRecords pg) h .2)
 
   pub begins-within : Faithful pg → (i : ℕ) → i ≡ beginLine text lines m k a → m < i → ⊥
   begins-within h i e x =
       let v = fresh-inverse t (pageRecords pg) h in
-      let bh = behind t (pageRecords pg) (v .2) in
-      let s = fresh-small t (pageRecords pg) (short-text t (v .0)) (v .2) in
+      let bh = behind bargeLine t (pageRecords pg) (v .2) in
+      let s = fresh-small bargeLine (omega arith) t (pageRecords pg) (short-text t (v .0)) (v .2) in
       let at : countLF (take a text) ≡ countLF (take a t) = ap countLF (sym (take-take a n text (omega (arith, ok .order, ok .inside)))) in
       let b = begin-at text lines m k a (omega (arith, s .n-le, s .m-le)) (omega (arith, s .n-le, s .k-le)) (countLF (take a text)) refl
       (omega (arith, at, i-le bh)) (usable-of bh (countLF (take a text)) at) in
       omega (arith, e, b, at, i-le bh)
 
   -- A plan, with room or without.
-  module _ (p : Plan) (pl : Planned u lines m k p) (mends : (bh : Behind t (pageRecords pg)) → Mends t lines (bh .entries) (bh .end) ed p) where
+  module _ (p : Plan) (pl : Planned u lines m k p) (mends : (bh : Behind bargeLine t (pageRecords pg)) → Mends t lines (bh .entries) (bh .end) ed p) where
     sizes-of : (x : Reading) → plannedLines u lines p ≡ x → ReadsAs p x → (p .lines ≡ length (newLines (p .ends) x)) × (p .tokens ≡ tokenSum (newLines (p .ends) x))
     sizes-of (reads es z) e r = (r .3, r .4)
     sizes-of (halts es h) e r = absurd r
 
-    module _ (bh : Behind t (pageRecords pg)) where
+    module _ (bh : Behind bargeLine t (pageRecords pg)) where
       abbrev new : List Entry
       new = newLines (p .ends) (plannedLines u lines p)
 
@@ -275,9 +281,9 @@ module _ {pg : Page} {ed : Edit} (ok : Editable pg ed) where
             x .from-is,
           )
 
-      records-are : readLines barge u ≡ recorded (recordsOf (mends bh .entries) (mends bh .last))
+      records-are : readLines bargeLine u ≡ recorded (recordsOf (mends bh .entries) (mends bh .last))
       unfolding readLines recordedBy
-      records-are = ap (recordedBy barge) (mends bh .reads-are)
+      records-are = ap recordedBy (mends bh .reads-are)
 
       lines-need : lineNeed (recordsOf (mends bh .entries) (mends bh .last) .head .m) ≡ lineSize * linesAfter p m
       unfolding recordsOf
@@ -290,7 +296,7 @@ module _ {pg : Page} {ed : Edit} (ok : Editable pg ed) where
       few-tokens : tokensAfter p k ≤ 2_097_152
       unfolding recordsOf
       few-tokens =
-          let s = fresh-small u (recordsOf (mends bh .entries) (mends bh .last)) (ok .small) records-are in
+          let s = fresh-small bargeLine (omega arith) u (recordsOf (mends bh .entries) (mends bh .last)) (ok .small) records-are in
           omega (arith, tokens-sum, s .k-le, s .n-le)
 
     short-lines : length lines < lineSize * linesAfter p m → OnPaper pg ed (short linesBuffer (lineSize * linesAfter p m))
@@ -344,21 +350,21 @@ module _ {pg : Page} {ed : Edit} (ok : Editable pg ed) where
 
     -- what reading again gives, on paper
     abbrev pub Gives : Reread → Type 0
-    Gives = RereadIs (drop base u) lines base i m i b (a + length w) z
+    Gives = RereadIs bargeLine (drop base u) lines base i m i b (a + length w) z
 
     -- how much was read again
-    lines-small : (c x q : ℕ) (l : Lines (drop base u) z c x q) → (c ≤ q) × (x ≤ widthWords + 2 * q) × (x + length (l .after .widths) ≤ widthWords + 2 * q)
+    lines-small : (c x q : ℕ) (l : Lines bargeLine (drop base u) z c x q) → (c ≤ q) × (x ≤ widthWords + 2 * q) × (x + length (l .after .widths) ≤ widthWords + 2 * q)
     lines-small c x q l =
         let rest : List ℕ = drop base u in
-        let s = read-sizes maxLevels z (take c (linesOf rest)) (l .es) (l .after) (l .reads-are) in
+        let s = read-sizes bargeLine z (take c (linesOf rest)) (l .es) (l .after) (l .reads-are) in
         let e : total (take c (linesOf rest)) ≡ q = sym (s .1) ∙ l .bytes in
-        let to : ReadTo maxLevels z rest q (l .es) (l .after) = record {
+        let to : ReadTo bargeLine z rest q (l .es) (l .after) = record {
           lines = take c (linesOf rest);
           split = sym (take-append-drop c (linesOf rest)) ∙ ap (λ (y : List (List ℕ)). take c (linesOf rest) ++ y) (drop-lines c rest ∙ ap (λ (i : ℕ). linesOf (drop i rest)) e);
           reads-are = l .reads-are;
           bytes = l .bytes;
         } in
-        let g = read-grown maxLevels z rest q (l .es) (l .after) to in
+        let g = read-grown bargeLine z rest q (l .es) (l .after) to in
         let v : length (z .widths) ≤ widthWords = omega (arith, length-take (lineWord lines i 4) (take widthWords (drop (lineSize * i + 5) lines)), us .levels) in
         (omega (arith, g .lines, l .count), omega (arith, g .tokens, l .tokens), omega (arith, g .tokens, l .tokens))
 
@@ -376,7 +382,7 @@ module _ {pg : Page} {ed : Edit} (ok : Editable pg ed) where
         let v = lines-small c x (length (drop base u)) (r .0) in
         (omega (arith, v .0, rest-small), omega (arith, v .2, r .1 .1, rest-small))
 
-    stop-planned : (c x q j : ℕ) (l : Lines (drop base u) z c x q) → q < length (drop base u) → j ≤ m → lineWord lines j 1 ≤ k → lineWord lines j 0 ≤ 4_294_967_295
+    stop-planned : (c x q j : ℕ) (l : Lines bargeLine (drop base u) z c x q) → q < length (drop base u) → j ≤ m → lineWord lines j 1 ≤ k → lineWord lines j 0 ≤ 4_294_967_295
         → Planned u lines m k (stopPlan lines i base c x q j)
     stop-planned c x q j l hq hj hk ho =
         let v = lines-small c x q l in
@@ -397,7 +403,7 @@ module _ {pg : Page} {ed : Edit} (ok : Editable pg ed) where
           some = omega (arith, hj);
         }
 
-    stop-mends : (c x q j : ℕ) (r : Gives (Stops c x q j)) (bh : Behind t (pageRecords pg))
+    stop-mends : (c x q j : ℕ) (r : Gives (Stops c x q j)) (bh : Behind bargeLine t (pageRecords pg))
         → Mends t lines (bh .entries) (bh .end) ed (stopPlan lines i base c x q j)
     unfolding old-of
     stop-mends c x q j r bh =
@@ -433,7 +439,7 @@ module _ {pg : Page} {ed : Edit} (ok : Editable pg ed) where
         go false e =
             roomed-is (stopPlan lines i base c x q j) (stop-planned c x q j (r .0) (r .1 .0) (r .1 .1 .0) (ltb-false k (lineWord lines j 1) e) ho) (stop-mends c x q j r)
 
-    end-planned : (c x g : ℕ) (l : Lines (drop base u) z c x (length (drop base u))) → length (l .after .widths) ≡ g → n ≤ 4_294_967_295
+    end-planned : (c x g : ℕ) (l : Lines bargeLine (drop base u) z c x (length (drop base u))) → length (l .after .widths) ≡ g → n ≤ 4_294_967_295
         → Planned u lines m k (endPlan lines i base m k n (length u) c x g)
     unfolding tokenSum
     end-planned c x g l hg hn =
@@ -458,7 +464,7 @@ module _ {pg : Page} {ed : Edit} (ok : Editable pg ed) where
           some = omega arith;
         }
 
-    end-mends : (c x : ℕ) (s : line-state.State) (r : Gives (Ends c x s)) (bh : Behind t (pageRecords pg))
+    end-mends : (c x : ℕ) (s : line-state.State) (r : Gives (Ends c x s)) (bh : Behind bargeLine t (pageRecords pg))
         → Mends t lines (bh .entries) (bh .end) ed (endPlan lines i base m k n (length u) c x (s .levels))
     unfolding old-of
     end-mends c x s r bh =
@@ -491,23 +497,25 @@ module _ {pg : Page} {ed : Edit} (ok : Editable pg ed) where
         roomed-is (endPlan lines i base m k n (length u) c x (s .levels)) (end-planned c x (s .levels) (r .0) (r .1 .1) hn) (end-mends c x s r)
 
     -- the same, as the code has the rest of the text and the state
-    pub gives : {rest : List ℕ} {y : State} {r q : Reread} → rest ≡ drop base u → y ≡ z → r ≡ q → RereadIs rest lines base i m i b (a + length w) y r → Gives q
+    pub gives : {rest : List ℕ} {y : State} {r q : Reread} → rest ≡ drop base u → y ≡ z → r ≡ q → RereadIs bargeLine rest lines base i m i b (a + length w) y r → Gives q
     gives er ey e h = rw (er, ey, e) at h
 
-    halted : (h : Halt) (es : List Entry) → readFrom maxLevels initial (linesOf u) ≡ halts es h → readLines barge u ≡ unread (haltRefusal barge (byteSum es) (suc (length es)) h)
+    halted : (h : Halt) (es : List Entry) → readFrom bargeLine initial (linesOf u) ≡ halts es h → readLines bargeLine u ≡ unread (haltRefusal (byteSum es) (suc (length es)) h)
     unfolding readLines recordedBy
-    halted h es e = ap (recordedBy barge) e
+    halted h es e = ap recordedBy e
 
-    pub fail-plan : {r : FailureRecord} → Gives (Fails r) → OnPaper pg ed (reading (lexical (recordOut r)))
-    unfolding old-of stored haltRefusal
-    fail-plan h spare fa =
-        let v = fails-whole (h .1 (old-of (faithful-behind fa) i at-is)) in
-        ap (stored (record { text = length text; spare = spare; lines = length lines; tokens = length tokens }) (rereadCount t ed)) (halted (failed (v .1)) (v .0) (v .2))
-        ∙ ap (λ (y : FailureRecord). late (reading (lexical (recordOut y)))) (sym (v .3))
+    halt-refusal : (p l : ℕ) (h : Halt) → HaltNumbered bargeLine h → LineRefusal (unreadIn (haltRefusal p l h))
+    unfolding haltRefusal
+    halt-refusal p l (failed f) k = tt
+    halt-refusal p l (overLimit number) k = k
 
-    pub deep-plan : {l : ℕ} → Gives (TooDeep l) → OnPaper pg ed (reading (atLine 4 l))
-    unfolding old-of stored haltRefusal
-    deep-plan h spare fa =
-        let v = deep-whole (h .1 (old-of (faithful-behind fa) i at-is)) in
-        ap (stored (record { text = length text; spare = spare; lines = length lines; tokens = length tokens }) (rereadCount t ed)) (halted overLimit (v .0) (v .1))
-        ∙ ap (λ (y : ℕ). late (reading (atLine 4 y))) (sym (v .2))
+    pub halt-plan : {x : Unread} → Gives (Refused x) → PlanIs pg ed (answers.Refused x)
+    unfolding old-of stored
+    halt-plan {x} h =
+        let g = h .0 in (
+          subst LineRefusal (sym (g .3)) (halt-refusal _ _ (g .1) (halt-numbered bargeLine z (linesOf (drop base u)) (g .0) (g .1) (g .2))),
+          λ spare fa.
+              let v = halts-whole (h .1 (old-of (faithful-behind fa) i at-is)) in
+              ap (stored (record { text = length text; spare = spare; lines = length lines; tokens = length tokens }) (rereadCount bargeLine t ed)) (halted (v .1) (v .0) (v .2))
+              ∙ ap (λ (y : rules-replies.Unread). late (reading y)) (sym (ap unreadOf (v .3) ∙ unread-back _)),
+        )

@@ -7,20 +7,22 @@ use mathlib.Core.List.{List, [], _∷_, _++_}
 use lib.Dec.{ltb}
 use lib.ListN.{length, take, drop}
 use Rattle.rules.specs.Lists.{if_then_else_}
-use Rattle.rules.specs.Failure as rules-failure
 use Rattle.rules.specs.Line.{State, initial}
 use Rattle.rules.specs.Reading.{linesOf, countLF, Entry, Reading, reads, halts, readFrom, byteSum, tokenSum}
-use Rattle.rules.specs.Replies.{maxLevels, barge, Refusal, reading, lexical, atLine, short, unfit, linesBuffer, tokensBuffer}
+use Rattle.rules.specs.Limits.{bargeLine, LimitNumber}
+use Rattle.rules.specs.Replies.{Refusal, reading, short, unfit, linesBuffer, tokensBuffer}
 use Rattle.rules.specs.Records.{widthWords, lineSize, tokenSize, withEnd, readLines, Behind}
 use Rattle.rules.specs.Page.{Page, fits, pageText, pageRecords, Faithful}
 use Rattle.rules.specs.StopRule.{Edit, edited, rereadCount}
 use Rattle.rules.specs.Edit.{Outcome, late, stored}
-use Rattle.lines.specs.declared.FailureRecord.{FailureRecord}
+use Rattle.refusals.specs.Unreads.{unreadOf}
+use Rattle.refusals.specs.declared.Unread.{Unread}
+use Rattle.refusals.specs.declared.Unread.the-variants.{TooLong, Malformed, Fails, AtLine}
 use Rattle.records.specs.Words.{lineWord, stateFrom}
 use Rattle.planning.specs.Starts.{isUsable}
 use Rattle.planning.specs.declared.Plan.{Plan}
 use Rattle.planning.specs.declared.PlanAnswer.{PlanAnswer}
-use Rattle.planning.specs.declared.PlanAnswer.the-variants.{Writes, Fails, TooDeep, ShortLines, ShortTokens, Unfit}
+use Rattle.planning.specs.declared.PlanAnswer.the-variants.{Writes, Refused, ShortLines, ShortTokens, Unfit}
 
 -- The numbers of records afterwards.
 
@@ -97,7 +99,7 @@ newLines ends (halts es h) = []
 
 -- the lines of the edited text u that a plan reads again
 abbrev pub plannedLines : (u lines : List ℕ) → Plan → Reading
-plannedLines u lines p = readFrom 16 (stateFrom lines (p .i)) (take (p .count) (linesOf (drop (p .base) u)))
+plannedLines u lines p = readFrom bargeLine (stateFrom lines (p .i)) (take (p .count) (linesOf (drop (p .base) u)))
 
 -- they read, in so many tokens and up to this byte
 abbrev pub ReadsAs : Plan → Reading → Type 0
@@ -132,9 +134,9 @@ pub record Roomy (m k lines tokens : ℕ) (p : Plan) : Type 0 where
 pub record Mends (t lines : List ℕ) (old : List Entry) (end : State) (ed : Edit) (p : Plan) : Type 0 where
   pub entries : List Entry
   pub last : State
-  pub reads-are : readFrom maxLevels initial (linesOf (edited t ed)) ≡ reads entries last
+  pub reads-are : readFrom bargeLine initial (linesOf (edited t ed)) ≡ reads entries last
   pub mended : withEnd entries last ≡ take (p .i) (withEnd old end) ++ (newLines (p .ends) (plannedLines (edited t ed) lines p) ++ drop (p .j) (withEnd old end))
-  pub count : rereadCount t ed ≡ p .count
+  pub count : rereadCount bargeLine t ed ≡ p .count
   pub first-is : p .first ≡ tokenSum (take (p .i) (withEnd old end))
   pub from-is : p .from ≡ tokenSum (take (p .j) (withEnd old end))
   pub base-is : p .base ≡ byteSum (take (p .i) (withEnd old end))
@@ -149,19 +151,12 @@ editOf a b w = record { a = a; b = b; w = w }
 abbrev pub editedText : List ℕ → Edit → List ℕ
 editedText t ed = edited t ed
 
--- a failure's record, as the rules have it
-abbrev pub recordOut : FailureRecord → rules-failure.FailureRecord
-recordOut f =
-    record {
-      code = f .code;
-      detail = f .detail;
-      found = f .found;
-      position = f .position;
-      line = f .line;
-      column = f .column;
-      from = f .from;
-      to = f .to;
-    }
+-- a refusal that the reading of lines meets: 3, or one of their limits
+abbrev pub LineRefusal : Unread → Type 0
+LineRefusal (TooLong number n) = ⊥
+LineRefusal (Malformed n) = ⊥
+LineRefusal (Fails f) = Unit {0}
+LineRefusal (AtLine number l) = LimitNumber bargeLine number
 
 -- a plan; or a refusal, which on a faithful page is the one on paper
 module _ (pg : Page) (ed : Edit) where
@@ -169,16 +164,15 @@ module _ (pg : Page) (ed : Edit) where
   OnPaper r =
       (spare : ℕ) → Faithful pg
       → stored (record { text = length (pg .text); spare = spare; lines = length (pg .lines); tokens = length (pg .tokens) })
-      (rereadCount (pageText pg) ed) (readLines barge (edited (pageText pg) ed))
+      (rereadCount bargeLine (pageText pg) ed) (readLines bargeLine (edited (pageText pg) ed))
       ≡ late r
 
   abbrev pub PlanIs : PlanAnswer → Type 0
   PlanIs (Writes p) =
       Planned (edited (pageText pg) ed) (pg .lines) (pg .head .m) (pg .head .k) p
       × (Roomy (pg .head .m) (pg .head .k) (length (pg .lines)) (length (pg .tokens)) p
-      × ((b : Behind (pageText pg) (pageRecords pg)) → Mends (pageText pg) (pg .lines) (b .entries) (b .end) ed p))
-  PlanIs (Fails f) = OnPaper (reading (lexical (recordOut f)))
-  PlanIs (TooDeep l) = OnPaper (reading (atLine 4 l))
+      × ((b : Behind bargeLine (pageText pg) (pageRecords pg)) → Mends (pageText pg) (pg .lines) (b .entries) (b .end) ed p))
+  PlanIs (Refused u) = LineRefusal u × OnPaper (reading (unreadOf u))
   PlanIs (ShortLines n) = OnPaper (short linesBuffer n)
   PlanIs (ShortTokens n) = OnPaper (short tokensBuffer n)
   PlanIs Unfit = OnPaper unfit

@@ -3,6 +3,7 @@ ghost use mathlib.Core.Path.{_≡_};
 ghost use mathlib.Core.Bool.{true};
 ghost use Prim.Native.Nat.{_+_, _-_, _*_, _≤_, _<_};
 ghost use lib.ListN.{length, take, drop};
+ghost use Rattle.rules.specs.Limits.{bargeLine};
 ghost use Rattle.rules.specs.Reading.{countLF};
 ghost use Rattle.rules.specs.Page.{fits};
 ghost use Rattle.rules.specs.Records.{widthWords, lineSize};
@@ -92,11 +93,10 @@ pub struct Plan {
     pub ends: bool,
 }
 
-// A plan; or a refusal: 3, 4, 5 for one of two buffers with its least length, or 7.
+// A plan; or why the edited text does not read, 5 for one of two buffers with its least length, or 7.
 pub enum PlanAnswer {
     Writes(Plan),
-    Fails(lines::FailureRecord),
-    TooDeep(usize),
+    Refused(refusals::Unread),
     ShortLines(usize),
     ShortTokens(usize),
     Unfit,
@@ -216,7 +216,7 @@ fn plan_end(
     plan_room(p, m, k, lines.len(), tokens)
 }
 
-// The lines of the edited text from old line i on, read again up to the stop rule.
+// The lines of the edited text from old line i on, read again up to the stop rule, under the barge's limits.
 fn reread_from(
     lines: &[u32],
     edited: &[u8],
@@ -228,13 +228,14 @@ fn reread_from(
     requires { ⌜ (i ≤ 1_048_576) × ((i ≤ m) × ((m ≤ 4_294_967_295) × (lineSize * (m + 1) ≤ length (now lines)))) ⌝ }
     requires { ⌜ (i ≤ lineWord (now lines) i 0) × ((lineWord (now lines) i 2 ≤ lineWord (now lines) i 0) × (lineWord (now lines) i 4 ≤ widthWords)) ⌝ }
     requires { ⌜ (lineWord (now lines) i 0 ≤ length (now edited)) × ((length (now edited) ≤ 1_048_576) × (b ≤ 4_294_967_295)) ⌝ }
-    ensures { λ r. ⌜ RereadIs (drop (lineWord (now (lines .entry)) i 0) (now (edited .entry))) (now (lines .entry)) (lineWord (now (lines .entry)) i 0) i m i b kept (stateFrom (now (lines .entry)) i) r ⌝ }
+    ensures { λ r. ⌜ RereadIs bargeLine (drop (lineWord (now (lines .entry)) i 0) (now (edited .entry))) (now (lines .entry)) (lineWord (now (lines .entry)) i 0) i m i b kept (stateFrom (now (lines .entry)) i) r ⌝ }
 {
     let class = spelling::class_table();
     let reach = spelling::reach_table();
     let index = spelling::sign_index();
     let signs = spelling::sign_table();
     let keywords = spelling::keyword_table();
+    let limits = refusals::barge_limits();
     let mut widths: [u32; records::LEVELS] = [0; records::LEVELS];
     let s = records::load_state(lines, i, &mut widths);
     let base = lines[records::LINE * i + 0] as usize;
@@ -258,6 +259,7 @@ fn reread_from(
         false,
         i,
         0,
+        limits.line,
         &mut widths,
         s,
     )
@@ -314,7 +316,6 @@ pub fn plan_edit(
             s.levels,
             tokens.len(),
         ),
-        rereading::Reread::Fails(f) => PlanAnswer::Fails(f),
-        rereading::Reread::TooDeep(number) => PlanAnswer::TooDeep(number),
+        rereading::Reread::Refused(u) => PlanAnswer::Refused(u),
     }
 }

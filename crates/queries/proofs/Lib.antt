@@ -1,6 +1,5 @@
 pub mod Digits
 pub mod Literals
-pub mod Gates
 pub mod LastLine
 pub mod Scalars
 pub mod Walks

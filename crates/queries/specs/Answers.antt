@@ -3,9 +3,10 @@
 use Prim.Native.Nat.{ℕ}
 use mathlib.Core.List.{List, [], _∷_}
 use mathlib.Core.Option.{Option}
-use Rattle.rules.specs.Replies.{Reply, outside, numbered, accepted, refusedIf, firstOf, unless}
+use Rattle.rules.specs.Replies.{Reply, outside, numberedUnread, numbered, accepted, refusedIf, firstOf, unless}
 use Rattle.rules.specs.ByteValue.{valueWords}
 use Rattle.rules.specs.Column.{isOutside, panelColumn}
+use Rattle.refusals.specs.Unreads.{unreadOf}
 use Rattle.queries.specs.declared.Value as value
 use Rattle.queries.specs.declared.Value.the-variants as a-value
 use Rattle.queries.specs.declared.Column as column
@@ -14,13 +15,11 @@ use Rattle.queries.specs.declared.Column.the-variants as a-column
 abbrev pub valueNumbers : value.Value → List ℕ
 valueNumbers (a-value.Is v) = 0 ∷ 1 ∷ v ∷ []
 valueNumbers a-value.Nothing = 0 ∷ 0 ∷ []
-valueNumbers (a-value.TooLong n) = 1 ∷ n ∷ []
-valueNumbers (a-value.Malformed n) = 2 ∷ n ∷ []
+valueNumbers (a-value.Refused u) = numberedUnread (unreadOf u)
 
 abbrev pub columnNumbers : column.Column → List ℕ
 columnNumbers (a-column.At n) = 0 ∷ n ∷ []
-columnNumbers (a-column.TooLong n) = 1 ∷ n ∷ []
-columnNumbers (a-column.Malformed n) = 2 ∷ n ∷ []
+columnNumbers (a-column.Refused u) = numberedUnread (unreadOf u)
 columnNumbers a-column.Outside = 6 ∷ []
 
 -- a value, or none, accepted

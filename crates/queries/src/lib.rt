@@ -7,22 +7,17 @@ ghost use Rattle.rules.specs.Column.{columnReply};
 ghost use Rattle.queries.specs.Answers.{valueNumbers, optionReply, columnNumbers, placeReply};
 ghost use Rattle.queries.specs.Steps.{digitOr, countAfter};
 
-// The longest text that is read.
-const MAX_BYTES: usize = 1_048_576;
-
-// The value of a byte literal: a value, or none; or why the text is refused, with its length or its longest well-formed prefix.
+// The value of a byte literal: a value, or none; or why the text is refused, 1 or 2.
 pub enum Value {
     Is(u32),
     Nothing,
-    TooLong(usize),
-    Malformed(usize),
+    Refused(refusals::Unread),
 }
 
-// The panel column of an offset; or why it is refused.
+// The panel column of an offset; or why the text is refused, 1 or 2; or 6.
 pub enum Column {
     At(usize),
-    TooLong(usize),
-    Malformed(usize),
+    Refused(refusals::Unread),
     Outside,
 }
 
@@ -160,14 +155,10 @@ fn literal_value(text: &[u8]) -> Value
 pub fn ascii_byte_literal_value(text: &[u8]) -> Value
     ensures { λ r. ⌜ valueNumbers r ≡ valueReply (now (text .entry)) ⌝ }
 {
-    if MAX_BYTES < text.len() {
-        return Value::TooLong(text.len());
+    match refusals::test_text(refusals::barge_limits(), text) {
+        refusals::TextTest::Passes => literal_value(text),
+        refusals::TextTest::Refused(u) => Value::Refused(u),
     }
-    let prefix = utf8::well_formed_prefix(text);
-    if prefix < text.len() {
-        return Value::Malformed(prefix);
-    }
-    literal_value(text)
 }
 
 // Panel columns.
@@ -208,12 +199,8 @@ fn column_at(text: &[u8], at: usize) -> Column
 pub fn panel_column(text: &[u8], at: usize) -> Column
     ensures { λ r. ⌜ columnNumbers r ≡ columnReply (now (text .entry)) at ⌝ }
 {
-    if MAX_BYTES < text.len() {
-        return Column::TooLong(text.len());
+    match refusals::test_text(refusals::barge_limits(), text) {
+        refusals::TextTest::Passes => column_at(text, at),
+        refusals::TextTest::Refused(u) => Column::Refused(u),
     }
-    let prefix = utf8::well_formed_prefix(text);
-    if prefix < text.len() {
-        return Column::Malformed(prefix);
-    }
-    column_at(text, at)
 }

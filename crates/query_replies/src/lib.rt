@@ -10,6 +10,7 @@ use replies::put_four;
 use replies::put_one;
 use replies::put_three;
 use replies::put_two;
+use replies::put_unread;
 
 // The answer of `panel_column`.
 pub fn put_column(reply: &mut [u64; 16], r: queries::Column) -> u64
@@ -18,8 +19,7 @@ pub fn put_column(reply: &mut [u64; 16], r: queries::Column) -> u64
 {
     match r {
         queries::Column::At(column) => put_two(reply, 0, column as u64),
-        queries::Column::TooLong(n) => put_two(reply, 1, n as u64),
-        queries::Column::Malformed(n) => put_two(reply, 2, n as u64),
+        queries::Column::Refused(u) => put_unread(reply, u),
         queries::Column::Outside => put_one(reply, 6),
     }
 }
@@ -32,8 +32,7 @@ pub fn put_value(reply: &mut [u64; 16], r: queries::Value) -> u64
     match r {
         queries::Value::Is(v) => put_three(reply, 0, 1, v as u64),
         queries::Value::Nothing => put_two(reply, 0, 0),
-        queries::Value::TooLong(n) => put_two(reply, 1, n as u64),
-        queries::Value::Malformed(n) => put_two(reply, 2, n as u64),
+        queries::Value::Refused(u) => put_unread(reply, u),
     }
 }
 

@@ -1,6 +1,6 @@
 -- What `read` answers and leaves, by the answer of its first pass.
 -- Assumes nothing.
-use Prim.Native.Nat.{ℕ, suc, _+_, _*_, _≤_, _<_, min}
+use Prim.Native.Nat.{ℕ, suc, _+_, _*_, _≤_, _<_}
 use mathlib.Core.Path.{_≡_, refl, sym, ap, subst, _∙_}
 use mathlib.Core.List.{List, [], _∷_, _++_}
 use native.Mathlib.Omega.{arith}
@@ -9,41 +9,35 @@ use lib.ListN.{length, drop}
 use lib.Seq.{sets, sets-eq}
 use borrow.Author.Tests.{lt-ltb, le-ltb}
 use Rattle.rules.specs.Lists.{overwrite}
-use Rattle.rules.specs.Utf8.{wellFormedPrefix}
-use Rattle.rules.specs.Failure as rules-failure
-use Rattle.rules.specs.Failure.{failureRecord}
-use Rattle.rules.specs.Line.{State, initial, Halt, failed, overLimit}
+use Rattle.rules.specs.Line.{State, initial, Halt}
 use Rattle.rules.specs.Reading.{linesOf, Entry, Reading, reads, halts, readFrom, byteSum, tokenSum}
-use Rattle.rules.specs.Replies.{maxBytes, maxWord, barge, linesBuffer, tokensBuffer, Unread, lexical, atLine, Refusal, reading, short, numbered, numberedUnread, failureWords, firstOf, unless, refusedIf, isTooLong, tooLongBy, isMalformed, malformedBy}
-use Rattle.rules.specs.Records.{lineSize, tokenSize, lineNeed, tokenNeed, withEnd, Records, recordsOf, recordTests, FreshReading, recorded, unread, haltRefusal, recordedBy, readLines, freshReadingBy, freshReading}
-use Rattle.rules.specs.Read.{Filled, notFilled, filled, filledBy, readInto}
+use Rattle.rules.specs.Limits.{maxBytes, maxLevels, LineLimits}
+use Rattle.rules.specs.Replies.{linesBuffer, tokensBuffer, Refusal, reading, short, numbered, firstOf, unless, refusedIf}
+use Rattle.rules.specs.Records.{lineSize, tokenSize, lineNeed, tokenNeed, withEnd, Records, recordsOf, recordTests, FreshReading, recorded, unread, recordedBy, readLines}
+use Rattle.rules.specs.Read.{Filled, notFilled, filled, filledBy}
 use Rattle.rules.proofs.RecordLaws.{fresh-sizes}
 use Rattle.rules.proofs.BoundLaws.{Small, fresh-small}
-use Rattle.lines.specs.declared.FailureRecord.{FailureRecord}
+use Rattle.refusals.specs.declared.Unread.{Unread}
 use Rattle.reading.specs.declared.Pass.the-variants as pass-variants
 use Rattle.reading.specs.declared.ReadAnswer.{ReadAnswer}
 use Rattle.reading.specs.declared.ReadAnswer.the-variants as answers
-use Rattle.lines.specs.Steps.{recordIn}
+use Rattle.refusals.specs.Unreads.{unreadIn, unreadOf}
+use Rattle.refusals.proofs.Tests.{unread-back}
 use Rattle.reading.specs.Passes.{passOf, linesIn, tokensIn, RoomIn, Counted}
 use Rattle.reading.specs.Answers.{readNumbers}
 
 -- The first pass's answers.
 
-pub pass-counted : (x : Reading) (m k : ℕ) → pass-variants.Records m k ≡ passOf x → Counted m k x
+pub pass-counted : (x : Reading) (m k : ℕ) → pass-variants.Records m k ≡ passOf (recordedBy x) → Counted m k x
+unfolding recordedBy recordsOf
 pass-counted (reads es z) m k e = (cc, cc)
-pass-counted (halts es (failed f)) m k e = let b : _≡_ {A = ℕ} 0 1 = cc in absurd (omega arith)
-pass-counted (halts es overLimit) m k e = let b : _≡_ {A = ℕ} 0 1 = cc in absurd (omega arith)
+pass-counted (halts es h) m k e = let b : _≡_ {A = ℕ} 0 1 = cc in absurd (omega arith)
 
-pub pass-failed : (x : Reading) (r : FailureRecord) → pass-variants.Fails r ≡ passOf x
-    → (es : List Entry) × (f : rules-failure.Failure) × (x ≡ halts es (failed f)) × (r ≡ recordIn (failureRecord (byteSum es) (suc (length es)) f))
-pass-failed (reads es z) r e = let b : _≡_ {A = ℕ} 0 1 = cc in absurd (omega arith)
-pass-failed (halts es (failed f)) r e = (es, f, refl, cc)
-pass-failed (halts es overLimit) r e = let b : _≡_ {A = ℕ} 0 1 = cc in absurd (omega arith)
-
-pub pass-deep : (x : Reading) (l : ℕ) → pass-variants.TooDeep l ≡ passOf x → (es : List Entry) × (x ≡ halts es overLimit) × (l ≡ suc (length es))
-pass-deep (reads es z) l e = let b : _≡_ {A = ℕ} 0 1 = cc in absurd (omega arith)
-pass-deep (halts es (failed f)) l e = let b : _≡_ {A = ℕ} 0 1 = cc in absurd (omega arith)
-pass-deep (halts es overLimit) l e = (es, refl, cc)
+pub pass-refused : (f : FreshReading) (u : Unread) → pass-variants.Refused u ≡ passOf f → f ≡ unread (unreadOf u)
+pass-refused (recorded r) u e = let b : _≡_ {A = ℕ} 0 1 = cc in absurd (omega arith)
+pass-refused (unread x) u e =
+    let q : u ≡ unreadIn x = cc in
+    ap unread (sym (ap unreadOf q ∙ unread-back x))
 
 pub overwritten : (xs l : List ℕ) → length xs ≤ length l → sets l 0 xs ≡ overwrite xs l
 unfolding overwrite
@@ -60,62 +54,38 @@ answered-by x y r L T e a = subst (λ (w : Filled). Answered w r L T) (sym e) a
 pub left-as : (x : Filled) (r : ReadAnswer) (L T L₁ T₁ : List ℕ) → L₁ ≡ L → T₁ ≡ T → Answered x r L T → Answered x r L₁ T₁
 left-as x r L T L₁ T₁ el et a = (a .0, (el ∙ a .1 .0, et ∙ a .1 .1))
 
-pub begun-as : (t L T L₁ T₁ : List ℕ) (r : ReadAnswer) (L′ T′ : List ℕ) → L₁ ≡ L → T₁ ≡ T
-    → Answered (filledBy L₁ T₁ (readLines barge t)) r L′ T′ → Answered (filledBy L T (readLines barge t)) r L′ T′
-begun-as t L T L₁ T₁ r L′ T′ el et a = answered-by _ _ r L′ T′ (λ i. filledBy (sym el i) (sym et i) (readLines barge t)) a
+pub begun-as : (f : FreshReading) (L T L₁ T₁ : List ℕ) (r : ReadAnswer) (L′ T′ : List ℕ) → L₁ ≡ L → T₁ ≡ T
+    → Answered (filledBy L₁ T₁ f) r L′ T′ → Answered (filledBy L T f) r L′ T′
+begun-as f L T L₁ T₁ r L′ T′ el et a = answered-by _ _ r L′ T′ (λ i. filledBy (sym el i) (sym et i) f) a
+
+pub read-as : (f g : FreshReading) (L T : List ℕ) (r : ReadAnswer) (L′ T′ : List ℕ) → f ≡ g → Answered (filledBy L T g) r L′ T′ → Answered (filledBy L T f) r L′ T′
+read-as f g L T r L′ T′ e a = answered-by _ _ r L′ T′ (ap (filledBy L T) e) a
+
+-- 1 to 4
+pub refused-answer : (f : FreshReading) (L T : List ℕ) (u : Unread) → f ≡ unread (unreadOf u) → Answered (filledBy L T f) (answers.Refused u) L T
+unfolding filledBy numbered
+refused-answer f L T u e = read-as f _ L T (answers.Refused u) L T e (refl, (refl, refl))
 
 -- The text t with the buffers L and T.
-module _ (t L T : List ℕ) where
-  -- 1
-  pub long-answer : maxBytes < length t → length t ≤ maxWord → Answered (readInto t L T) (answers.TooLong (length t)) L T
-  unfolding readInto freshReading freshReadingBy isTooLong tooLongBy filledBy numbered numberedUnread
-  long-answer h k =
-      let e : min (length t) maxWord ≡ length t = omega arith in
-      rw (lt-ltb maxBytes (length t) h, e) (refl, (refl, refl))
-
-  module _ (h : length t ≤ maxBytes) (p : ℕ) (e : p ≡ wellFormedPrefix t) where
-    -- 2
-    pub form-answer : p < length t → Answered (readInto t L T) (answers.Malformed p) L T
-    unfolding readInto freshReading freshReadingBy isTooLong isMalformed malformedBy filledBy numbered numberedUnread
-    form-answer k = rw (le-ltb maxBytes (length t) h, ← e, lt-ltb p (length t) k) (refl, (refl, refl))
-
-    -- then its lines
-    pub lines-next : length t ≤ p → (r : ReadAnswer) (L′ T′ : List ℕ) → Answered (filledBy L T (readLines barge t)) r L′ T′ → Answered (readInto t L T) r L′ T′
-    unfolding readInto freshReading freshReadingBy isTooLong isMalformed
-    lines-next k r L′ T′ a = rw (le-ltb maxBytes (length t) h, ← e, le-ltb p (length t) k) a
-
+module _ (lim : LineLimits) (t L T : List ℕ) where
   abbrev whole : Reading
-  whole = readFrom 16 initial (linesOf t)
+  whole = readFrom lim initial (linesOf t)
 
   abbrev now : Filled
-  now = filledBy L T (readLines barge t)
+  now = filledBy L T (readLines lim t)
 
-  by-reading : (x : Reading) → whole ≡ x → now ≡ filledBy L T (recordedBy barge x)
+  by-reading : (x : Reading) → whole ≡ x → now ≡ filledBy L T (recordedBy x)
   unfolding readLines
-  by-reading x e = ap (λ (y : Reading). filledBy L T (recordedBy barge y)) e
+  by-reading x e = ap (λ (y : Reading). filledBy L T (recordedBy y)) e
 
-  -- 3
-  pub failed-answer : (r : FailureRecord) → pass-variants.Fails r ≡ passOf whole → Answered now (answers.Fails r) L T
-  unfolding recordedBy haltRefusal filledBy numbered numberedUnread failureWords
-  failed-answer r e =
-      let f = pass-failed whole r e in
-      answered-by now _ (answers.Fails r) L T (by-reading (halts (f .0) (failed (f .1))) (f .2)) (ap (λ (x : FailureRecord). readNumbers (answers.Fails x)) (f .3), (refl, refl))
-
-  -- 4
-  pub deep-answer : (l : ℕ) → pass-variants.TooDeep l ≡ passOf whole → Answered now (answers.TooDeep l) L T
-  unfolding recordedBy haltRefusal filledBy numbered numberedUnread
-  deep-answer l e =
-      let f = pass-deep whole l e in
-      answered-by now _ (answers.TooDeep l) L T (by-reading (halts (f .0) overLimit) (f .1)) (ap (λ (x : ℕ). readNumbers (answers.TooDeep x)) (f .2), (refl, refl))
-
-  module _ (m k : ℕ) (small : length t ≤ maxBytes) (x : Reading) (is : whole ≡ x) (c : Counted m k x) where
+  module _ (m k : ℕ) (small : length t ≤ maxBytes) (fit : lim .levels ≤ maxLevels) (x : Reading) (is : whole ≡ x) (c : Counted m k x) where
     pub counts-small : (m ≤ 1_048_576) × (k ≤ 2_097_152)
     unfolding readLines recordedBy recordsOf
     counts-small = go x is c
       where
         go : (y : Reading) → whole ≡ y → Counted m k y → (m ≤ 1_048_576) × (k ≤ 2_097_152)
         go (reads es z) e d =
-            let s = fresh-small t (recordsOf es z) small (ap (recordedBy barge) e) in
+            let s = fresh-small lim fit t (recordsOf es z) small (ap recordedBy e) in
             (omega (arith, d .0, s .m-le, s .n-le), omega (arith, d .1, s .k-le, s .n-le))
         go (halts es h) e d = absurd d
 
@@ -161,8 +131,8 @@ module _ (t L T : List ℕ) where
         go (halts es x) e d gl gt = absurd d
         go (reads es z) e d gl gt =
             let r : Records = recordsOf es z in
-            let q : readLines barge t ≡ recorded r = ap (recordedBy barge) e in
-            let s = fresh-sizes t r q in
+            let q : readLines lim t ≡ recorded r = ap recordedBy e in
+            let s = fresh-sizes lim t r q in
             let hm : m ≡ r .head .m = d .0 in
             let hk : k ≡ r .head .k = d .1 in
             answered-by now _ (answers.Records (length t) m k) L′ T′ (by-reading (reads es z) e)

@@ -1,22 +1,19 @@
 -- What a pass over a text gives and writes.
 -- Assumes nothing.
-use Prim.Native.Nat.{ℕ, suc, _≤_}
+use Prim.Native.Nat.{ℕ, _≤_}
 use mathlib.Core.Path.{_≡_}
 use mathlib.Core.List.{List, []}
 use lib.ListN.{length}
-use Rattle.rules.specs.Failure.{failureRecord}
-use Rattle.rules.specs.Line.{failed, overLimit}
-use Rattle.rules.specs.Reading.{Reading, reads, halts, byteSum, tokenSum}
-use Rattle.rules.specs.Records.{lineNeed, tokenNeed, withEnd, recordsOf}
-use Rattle.lines.specs.Steps.{recordIn}
+use Rattle.rules.specs.Reading.{Reading, reads, halts, tokenSum}
+use Rattle.rules.specs.Records.{lineNeed, tokenNeed, withEnd, recordsOf, FreshReading, recorded, unread}
+use Rattle.refusals.specs.Unreads.{unreadIn}
 use Rattle.reading.specs.declared.Pass.{Pass}
-use Rattle.reading.specs.declared.Pass.the-variants.{Records, Fails, TooDeep}
+use Rattle.reading.specs.declared.Pass.the-variants.{Records, Refused}
 
--- the numbers of lines and tokens, or the first failure, or the line of a level too many
-abbrev pub passOf : Reading → Pass
-passOf (reads es z) = Records (length es) (tokenSum (withEnd es z))
-passOf (halts es (failed f)) = Fails (recordIn (failureRecord (byteSum es) (suc (length es)) f))
-passOf (halts es overLimit) = TooDeep (suc (length es))
+-- the numbers of lines and tokens, or why the text does not read
+abbrev pub passOf : FreshReading → Pass
+passOf (recorded r) = Records (r .head .m) (r .head .k)
+passOf (unread u) = Refused (unreadIn u)
 
 abbrev pub linesIn : Reading → List ℕ
 linesIn (reads es z) = recordsOf es z .lines

@@ -5,21 +5,20 @@ ghost use Prim.Native.Nat.{_≤_};
 ghost use lib.ListN.{length};
 ghost use Rattle.rules.specs.Line.{initial};
 ghost use Rattle.rules.specs.Reading.{linesOf, readFrom};
-ghost use Rattle.rules.specs.Records.{widthWords, readLines};
-ghost use Rattle.rules.specs.Replies.{barge};
+ghost use Rattle.rules.specs.Records.{widthWords, readLines, freshReadingBy};
 ghost use Rattle.rules.specs.Read.{filledBy, readInto};
 ghost use Rattle.spelling.specs.Bytes.{classTable, reachTable};
 ghost use Rattle.spelling.specs.Rows.{keywordTable};
 ghost use Rattle.spelling.specs.Signs.{signTable, signIndexTable};
+ghost use Rattle.refusals.specs.Limits.{lineLimitsOf, limitsOf};
 ghost use Rattle.laws.specs.Puts.{putIf};
 ghost use Rattle.reading.specs.Passes.{passOf, linesIn, tokensIn, RoomIn, Counted};
 ghost use Rattle.reading.specs.Answers.{readNumbers};
 
-// What a pass gives: the numbers of lines and tokens; or the first failure; or the line of a level too many.
+// What a pass gives: the numbers of lines and tokens; or why the text does not read.
 pub enum Pass {
     Records(usize, usize),
-    Fails(lines::FailureRecord),
-    TooDeep(usize),
+    Refused(refusals::Unread),
 }
 
 // One pass over the lines of a text: it counts, and where it writes, it stores the records.
@@ -33,6 +32,7 @@ pub fn pass_lines(
     lines: &mut [u32],
     tokens: &mut [u32],
     write: bool,
+    limits: refusals::LineLimits,
     widths: &mut [u32],
 ) -> Pass
     requires { ⌜ now class ≡ classTable ⌝ }
@@ -40,11 +40,11 @@ pub fn pass_lines(
     requires { ⌜ now index ≡ signIndexTable ⌝ }
     requires { ⌜ now signs ≡ signTable ⌝ }
     requires { ⌜ now keywords ≡ keywordTable ⌝ }
-    requires { ⌜ (length (now text) ≤ 1_048_576) × (length (now widths) ≡ widthWords) ⌝ }
-    requires { ⌜ (write ≡ true → RoomIn (readFrom 16 initial (linesOf (now text))) (length (now lines)) (length (now tokens))) ⌝ }
-    ensures { λ r. ⌜ r ≡ passOf (readFrom 16 initial (linesOf (now (text .entry)))) ⌝ }
-    ensures { λ _. ⌜ now (lines .exit) ≡ putIf write (now (lines .entry)) 0 (linesIn (readFrom 16 initial (linesOf (now (text .entry))))) ⌝ }
-    ensures { λ _. ⌜ now (tokens .exit) ≡ putIf write (now (tokens .entry)) 0 (tokensIn (readFrom 16 initial (linesOf (now (text .entry))))) ⌝ }
+    requires { ⌜ (length (now text) ≤ 1_048_576) × (length (now widths) ≡ widthWords) × (limits .levels ≤ 16) ⌝ }
+    requires { ⌜ (write ≡ true → RoomIn (readFrom (lineLimitsOf limits) initial (linesOf (now text))) (length (now lines)) (length (now tokens))) ⌝ }
+    ensures { λ r. ⌜ r ≡ passOf (readLines (lineLimitsOf limits) (now (text .entry))) ⌝ }
+    ensures { λ _. ⌜ now (lines .exit) ≡ putIf write (now (lines .entry)) 0 (linesIn (readFrom (lineLimitsOf limits) initial (linesOf (now (text .entry))))) ⌝ }
+    ensures { λ _. ⌜ now (tokens .exit) ≡ putIf write (now (tokens .entry)) 0 (tokensIn (readFrom (lineLimitsOf limits) initial (linesOf (now (text .entry))))) ⌝ }
 {
     let n = text.len();
     let none: [u32; records::LINE] = [0; records::LINE];
@@ -71,6 +71,7 @@ pub fn pass_lines(
         write,
         0,
         0,
+        limits,
         widths,
         start,
     ) {
@@ -80,15 +81,14 @@ pub fn pass_lines(
             Pass::Records(m, k + s.levels)
         }
         rereading::Reread::Stops(m, k, _, _) => Pass::Records(m, k),
-        rereading::Reread::Fails(f) => Pass::Fails(f),
-        rereading::Reread::TooDeep(number) => Pass::TooDeep(number),
+        rereading::Reread::Refused(u) => Pass::Refused(u),
     }
 }
 
 // What a text gives that is read and not stored: a pass that only counts.
-pub fn count_lines(text: &[u8]) -> Pass
-    requires { ⌜ length (now text) ≤ 1_048_576 ⌝ }
-    ensures { λ r. ⌜ r ≡ passOf (readFrom 16 initial (linesOf (now (text .entry)))) ⌝ }
+fn count_lines(limits: refusals::LineLimits, text: &[u8]) -> Pass
+    requires { ⌜ (length (now text) ≤ 1_048_576) × (limits .levels ≤ 16) ⌝ }
+    ensures { λ r. ⌜ r ≡ passOf (readLines (lineLimitsOf limits) (now (text .entry))) ⌝ }
 {
     let class = spelling::class_table();
     let reach = spelling::reach_table();
@@ -108,17 +108,26 @@ pub fn count_lines(text: &[u8]) -> Pass
         &mut lines,
         &mut tokens,
         false,
+        limits,
         &mut widths,
     )
 }
 
-// The answer of `read`: bytes, lines and tokens; or a refusal, 1 to 4, or 5 for one of the two buffers with its least length.
+// A text by itself, under given limits: 1, 2, then its lines, which are counted.
+pub fn open_text(limits: refusals::Limits, text: &[u8]) -> Pass
+    requires { ⌜ (limits .bytes ≤ 1_048_576) × (limits .line .levels ≤ 16) ⌝ }
+    ensures { λ r. ⌜ r ≡ passOf (freshReadingBy (limitsOf limits) (now (text .entry))) ⌝ }
+{
+    match refusals::test_text(limits, text) {
+        refusals::TextTest::Passes => count_lines(limits.line, text),
+        refusals::TextTest::Refused(u) => Pass::Refused(u),
+    }
+}
+
+// The answer of `read`: bytes, lines and tokens; or why the text does not read, or 5 for one of the two buffers with its least length.
 pub enum ReadAnswer {
     Records(usize, usize, usize),
-    TooLong(usize),
-    Malformed(usize),
-    Fails(lines::FailureRecord),
-    TooDeep(usize),
+    Refused(refusals::Unread),
     ShortLines(usize),
     ShortTokens(usize),
 }
@@ -133,6 +142,7 @@ fn store_records(
     text: &[u8],
     lines: &mut [u32],
     tokens: &mut [u32],
+    limits: refusals::LineLimits,
     widths: &mut [u32],
     m: usize,
     k: usize,
@@ -142,11 +152,11 @@ fn store_records(
     requires { ⌜ now index ≡ signIndexTable ⌝ }
     requires { ⌜ now signs ≡ signTable ⌝ }
     requires { ⌜ now keywords ≡ keywordTable ⌝ }
-    requires { ⌜ (length (now text) ≤ 1_048_576) × (length (now widths) ≡ widthWords) ⌝ }
-    requires { ⌜ Counted m k (readFrom 16 initial (linesOf (now text))) ⌝ }
-    ensures { λ r. ⌜ readNumbers r ≡ filledBy (now (lines .entry)) (now (tokens .entry)) (readLines barge (now (text .entry))) .reply ⌝ }
-    ensures { λ _. ⌜ now (lines .exit) ≡ filledBy (now (lines .entry)) (now (tokens .entry)) (readLines barge (now (text .entry))) .lines ⌝ }
-    ensures { λ _. ⌜ now (tokens .exit) ≡ filledBy (now (lines .entry)) (now (tokens .entry)) (readLines barge (now (text .entry))) .tokens ⌝ }
+    requires { ⌜ (length (now text) ≤ 1_048_576) × (length (now widths) ≡ widthWords) × (limits .levels ≤ 16) ⌝ }
+    requires { ⌜ Counted m k (readFrom (lineLimitsOf limits) initial (linesOf (now text))) ⌝ }
+    ensures { λ r. ⌜ readNumbers r ≡ filledBy (now (lines .entry)) (now (tokens .entry)) (readLines (lineLimitsOf limits) (now (text .entry))) .reply ⌝ }
+    ensures { λ _. ⌜ now (lines .exit) ≡ filledBy (now (lines .entry)) (now (tokens .entry)) (readLines (lineLimitsOf limits) (now (text .entry))) .lines ⌝ }
+    ensures { λ _. ⌜ now (tokens .exit) ≡ filledBy (now (lines .entry)) (now (tokens .entry)) (readLines (lineLimitsOf limits) (now (text .entry))) .tokens ⌝ }
 {
     if lines.len() < records::LINE * (m + 1) {
         return ReadAnswer::ShortLines(records::LINE * (m + 1));
@@ -164,17 +174,23 @@ fn store_records(
         lines,
         tokens,
         true,
+        limits,
         widths,
     );
     ReadAnswer::Records(text.len(), m, k)
 }
 
 // A text that passed tests 1 and 2: it is counted, then its records are stored.
-fn read_lines(text: &[u8], lines: &mut [u32], tokens: &mut [u32]) -> ReadAnswer
-    requires { ⌜ length (now text) ≤ 1_048_576 ⌝ }
-    ensures { λ r. ⌜ readNumbers r ≡ filledBy (now (lines .entry)) (now (tokens .entry)) (readLines barge (now (text .entry))) .reply ⌝ }
-    ensures { λ _. ⌜ now (lines .exit) ≡ filledBy (now (lines .entry)) (now (tokens .entry)) (readLines barge (now (text .entry))) .lines ⌝ }
-    ensures { λ _. ⌜ now (tokens .exit) ≡ filledBy (now (lines .entry)) (now (tokens .entry)) (readLines barge (now (text .entry))) .tokens ⌝ }
+fn read_lines(
+    limits: refusals::LineLimits,
+    text: &[u8],
+    lines: &mut [u32],
+    tokens: &mut [u32],
+) -> ReadAnswer
+    requires { ⌜ (length (now text) ≤ 1_048_576) × (limits .levels ≤ 16) ⌝ }
+    ensures { λ r. ⌜ readNumbers r ≡ filledBy (now (lines .entry)) (now (tokens .entry)) (readLines (lineLimitsOf limits) (now (text .entry))) .reply ⌝ }
+    ensures { λ _. ⌜ now (lines .exit) ≡ filledBy (now (lines .entry)) (now (tokens .entry)) (readLines (lineLimitsOf limits) (now (text .entry))) .lines ⌝ }
+    ensures { λ _. ⌜ now (tokens .exit) ≡ filledBy (now (lines .entry)) (now (tokens .entry)) (readLines (lineLimitsOf limits) (now (text .entry))) .tokens ⌝ }
 {
     let class = spelling::class_table();
     let reach = spelling::reach_table();
@@ -192,6 +208,7 @@ fn read_lines(text: &[u8], lines: &mut [u32], tokens: &mut [u32]) -> ReadAnswer
         lines,
         tokens,
         false,
+        limits,
         &mut widths,
     ) {
         Pass::Records(m, k) => store_records(
@@ -203,28 +220,38 @@ fn read_lines(text: &[u8], lines: &mut [u32], tokens: &mut [u32]) -> ReadAnswer
             text,
             lines,
             tokens,
+            limits,
             &mut widths,
             m,
             k,
         ),
-        Pass::Fails(f) => ReadAnswer::Fails(f),
-        Pass::TooDeep(number) => ReadAnswer::TooDeep(number),
+        Pass::Refused(u) => ReadAnswer::Refused(u),
     }
 }
 
-// A text by itself: its records at the front of the lent buffers, or a refusal that leaves them untouched.
+// A text by itself, under given limits: its records at the front of the lent buffers, or a refusal that leaves them untouched.
+pub fn read_within(
+    limits: refusals::Limits,
+    text: &[u8],
+    lines: &mut [u32],
+    tokens: &mut [u32],
+) -> ReadAnswer
+    requires { ⌜ (limits .bytes ≤ 1_048_576) × (limits .line .levels ≤ 16) ⌝ }
+    ensures { λ r. ⌜ readNumbers r ≡ filledBy (now (lines .entry)) (now (tokens .entry)) (freshReadingBy (limitsOf limits) (now (text .entry))) .reply ⌝ }
+    ensures { λ _. ⌜ now (lines .exit) ≡ filledBy (now (lines .entry)) (now (tokens .entry)) (freshReadingBy (limitsOf limits) (now (text .entry))) .lines ⌝ }
+    ensures { λ _. ⌜ now (tokens .exit) ≡ filledBy (now (lines .entry)) (now (tokens .entry)) (freshReadingBy (limitsOf limits) (now (text .entry))) .tokens ⌝ }
+{
+    match refusals::test_text(limits, text) {
+        refusals::TextTest::Passes => read_lines(limits.line, text, lines, tokens),
+        refusals::TextTest::Refused(u) => ReadAnswer::Refused(u),
+    }
+}
+
+// The same under the barge's limits.
 pub fn read(text: &[u8], lines: &mut [u32], tokens: &mut [u32]) -> ReadAnswer
     ensures { λ r. ⌜ readNumbers r ≡ readInto (now (text .entry)) (now (lines .entry)) (now (tokens .entry)) .reply ⌝ }
     ensures { λ _. ⌜ now (lines .exit) ≡ readInto (now (text .entry)) (now (lines .entry)) (now (tokens .entry)) .lines ⌝ }
     ensures { λ _. ⌜ now (tokens .exit) ≡ readInto (now (text .entry)) (now (lines .entry)) (now (tokens .entry)) .tokens ⌝ }
 {
-    let n = text.len();
-    if 1_048_576 < n {
-        return ReadAnswer::TooLong(n);
-    }
-    let good = utf8::well_formed_prefix(text);
-    if good < n {
-        return ReadAnswer::Malformed(good);
-    }
-    read_lines(text, lines, tokens)
+    read_within(refusals::barge_limits(), text, lines, tokens)
 }

@@ -1,8 +1,10 @@
 // Words at the front of a reply, and how many they are.
 ghost use mathlib.Core.Path.{_≡_};
 ghost use mathlib.Core.List.{[], _∷_};
+ghost use lib.ListN.{length};
 ghost use lib.Seq.{sets};
-ghost use Rattle.reading.specs.Answers.{failureNumbers};
+ghost use Rattle.rules.specs.Replies.{numberedUnread};
+ghost use Rattle.refusals.specs.Unreads.{unreadOf};
 
 // One word.
 pub fn put_one(reply: &mut [u64; 16], a: u64) -> u64
@@ -60,9 +62,9 @@ pub fn put_five(reply: &mut [u64; 16], a: u64, b: u64, c: u64, d: u64, e: u64) -
 }
 
 // Refusal 3 with a failure's record.
-pub fn put_failure(reply: &mut [u64; 16], f: lines::FailureRecord) -> u64
+fn put_failure(reply: &mut [u64; 16], f: refusals::FailureRecord) -> u64
     ensures { λ r. ⌜ r ≡ 9 ⌝ }
-    ensures { λ _. ⌜ now (reply .exit) ≡ sets (now (reply .entry)) 0 (3 ∷ failureNumbers f) ⌝ }
+    ensures { λ _. ⌜ now (reply .exit) ≡ sets (now (reply .entry)) 0 (3 ∷ f .code ∷ f .detail ∷ f .found ∷ f .position ∷ f .line ∷ f .column ∷ f .from ∷ f .to ∷ []) ⌝ }
 {
     reply[0] = 3;
     reply[1] = f.code as u64;
@@ -74,4 +76,17 @@ pub fn put_failure(reply: &mut [u64; 16], f: lines::FailureRecord) -> u64
     reply[7] = f.from as u64;
     reply[8] = f.to as u64;
     9
+}
+
+// Why a text by itself is refused.
+pub fn put_unread(reply: &mut [u64; 16], u: refusals::Unread) -> u64
+    ensures { λ n. ⌜ n ≡ length (numberedUnread (unreadOf u)) ⌝ }
+    ensures { λ _. ⌜ now (reply .exit) ≡ sets (now (reply .entry)) 0 (numberedUnread (unreadOf u)) ⌝ }
+{
+    match u {
+        refusals::Unread::TooLong(number, n) => put_two(reply, number as u64, n as u64),
+        refusals::Unread::Malformed(n) => put_two(reply, 2, n as u64),
+        refusals::Unread::Fails(f) => put_failure(reply, f),
+        refusals::Unread::AtLine(number, l) => put_two(reply, number as u64, l as u64),
+    }
 }

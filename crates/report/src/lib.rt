@@ -1,19 +1,20 @@
 // The message of a text's failure, in a buffer that is lent.
 ghost use mathlib.Core.Path.{_≡_};
-ghost use Rattle.rules.specs.Report.{written, reportInto};
-ghost use Rattle.report.specs.Answers.{reportNumbers, messageIn, Printable};
+ghost use Rattle.rules.specs.Records.{unread};
+ghost use Rattle.rules.specs.Report.{written, reportBy, reportInto};
+ghost use Rattle.refusals.specs.Unreads.{unreadOf};
+ghost use Rattle.report.specs.Answers.{reportNumbers, messageIn, Printable, Reportable};
 
-// The answer of `report`: the size of the message, 0 where the text reads; or a refusal, 1, 2, 4, or 5 for out with its least length.
+// The answer of `report`: the size of the message, 0 where the text reads; or why the text is refused, but not 3, or 5 for
+// out with its least length.
 pub enum ReportAnswer {
     Message(usize),
-    TooLong(usize),
-    Malformed(usize),
-    TooDeep(usize),
+    Refused(refusals::Unread),
     ShortOut(usize),
 }
 
 // A failure's message at the front of out, where out holds it.
-fn put_failure(text: &[u8], out: &mut [u8], f: lines::FailureRecord) -> ReportAnswer
+fn put_failure(text: &[u8], out: &mut [u8], f: refusals::FailureRecord) -> ReportAnswer
     requires { ⌜ Printable (now text) f ⌝ }
     ensures { λ r. ⌜ reportNumbers r ≡ written (now (out .entry)) (messageIn (now (text .entry)) f) .reply ⌝ }
     ensures { λ _. ⌜ now (out .exit) ≡ written (now (out .entry)) (messageIn (now (text .entry)) f) .out ⌝ }
@@ -46,22 +47,25 @@ fn put_failure(text: &[u8], out: &mut [u8], f: lines::FailureRecord) -> ReportAn
     ReportAnswer::Message(size)
 }
 
+// Why a text does not read: the message of a failure at the front of out, another refusal as it is.
+fn report_unread(text: &[u8], out: &mut [u8], u: refusals::Unread) -> ReportAnswer
+    requires { ⌜ Reportable (now text) u ⌝ }
+    ensures { λ r. ⌜ reportNumbers r ≡ reportBy (now (text .entry)) (now (out .entry)) (unread (unreadOf u)) .reply ⌝ }
+    ensures { λ _. ⌜ now (out .exit) ≡ reportBy (now (text .entry)) (now (out .entry)) (unread (unreadOf u)) .out ⌝ }
+{
+    if let refusals::Unread::Fails(f) = u {
+        return put_failure(text, out, f);
+    }
+    ReportAnswer::Refused(u)
+}
+
 // A text by itself: the message of its failure at the front of out, or a refusal that leaves out untouched.
 pub fn report(text: &[u8], out: &mut [u8]) -> ReportAnswer
     ensures { λ r. ⌜ reportNumbers r ≡ reportInto (now (text .entry)) (now (out .entry)) .reply ⌝ }
     ensures { λ _. ⌜ now (out .exit) ≡ reportInto (now (text .entry)) (now (out .entry)) .out ⌝ }
 {
-    let n = text.len();
-    if 1_048_576 < n {
-        return ReportAnswer::TooLong(n);
-    }
-    let good = utf8::well_formed_prefix(text);
-    if good < n {
-        return ReportAnswer::Malformed(good);
-    }
-    match reading::count_lines(text) {
+    match reading::open_text(refusals::barge_limits(), text) {
         reading::Pass::Records(_, _) => ReportAnswer::Message(0),
-        reading::Pass::Fails(f) => put_failure(text, out, f),
-        reading::Pass::TooDeep(number) => ReportAnswer::TooDeep(number),
+        reading::Pass::Refused(u) => report_unread(text, out, u),
     }
 }

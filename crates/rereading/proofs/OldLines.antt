@@ -12,7 +12,7 @@ use lib.Seq.{drop-drop, getD-take, getD-drop, take-append-le, drop-append-le, le
 use Rattle.rules.specs.Lists.{same}
 use Rattle.rules.specs.Line.{State, initial}
 use Rattle.rules.specs.Reading.{linesOf, Entry, reads, readFrom, byteSum, tokenSum, stateAt}
-use Rattle.rules.specs.Replies.{maxLevels}
+use Rattle.rules.specs.Limits.{maxLevels, LineLimits}
 use Rattle.rules.specs.Records.{lineSize, lineNeed, stateWords, lineRecord, lineRecords, endEntry, withEnd}
 use Rattle.rules.specs.StopRule.{Edit, edited, keptFrom, marksFrom, sameState, isStop}
 use Rattle.rules.proofs.LineLaws.{total}
@@ -78,15 +78,15 @@ starts-rise (e ∷ es) (suc i) (suc j) h l k = omega (arith, starts-rise es i j 
 
 -- The old lines behind the records.
 
-module _ (t : List ℕ) (es : List Entry) (end : State) (h : readFrom maxLevels initial (linesOf t) ≡ reads es end) where
+module _ (lim : LineLimits) (t : List ℕ) (es : List Entry) (end : State) (h : readFrom lim initial (linesOf t) ≡ reads es end) where
   rising : Positive es
-  rising = read-positive maxLevels (linesOf t) t initial es end refl h
+  rising = read-positive lim (linesOf t) t initial es end refl h
 
   -- no more levels than a record holds
-  pub levels-at : (x : ℕ) → length (stateAt es end x .widths) ≤ maxLevels
-  levels-at x =
-      let p = parts maxLevels x initial (linesOf t) es end h in
-      entries-ok maxLevels (4 * total (take x (linesOf t))) initial (take x (linesOf t)) (take x es) (stateAt es end x) (p .front) (omega arith) tt (omega arith) .1 .limited
+  pub levels-at : lim .levels ≤ maxLevels → (x : ℕ) → length (stateAt es end x .widths) ≤ maxLevels
+  levels-at room x =
+      let p = parts lim x initial (linesOf t) es end h in
+      entries-ok lim maxLevels (4 * total (take x (linesOf t))) room initial (take x (linesOf t)) (take x es) (stateAt es end x) (p .front) (omega arith) tt (omega arith) .1 .limited
 
   -- the record found from j on is that of the line that starts there
   pub found : (lines : List ℕ) (m : ℕ) → m ≡ length es → take (lineNeed m) lines ≡ lineRecords 0 0 (withEnd es end) → (i j r at : ℕ)

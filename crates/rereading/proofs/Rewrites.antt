@@ -7,6 +7,7 @@ use mathlib.Core.List.{List, [], _∷_, _++_, append-nil}
 use mathlib.Core.Logic.{⊎-elim}
 use native.Mathlib.Omega.{arith}
 use lib.ListN.{length, drop, length-append}
+use Rattle.rules.specs.Limits.{LineLimits}
 use Rattle.rules.specs.Line as rules-line
 use Rattle.rules.specs.Line.{Token, Halt, LineReply, lineReads, lineHalts, readLine}
 use Rattle.rules.specs.Reading.{linesOf, Entry, entry, Reading, reads, halts, readFrom, linesRead, byteSum, tokenSum, lineAt, sizeAt}
@@ -79,9 +80,9 @@ module _ {write : Bool} {base i first : ℕ} {lines₀ tokens₀ : List ℕ} {es
   all-put e = rw e w
 
 -- Where the whole text reads, what was read is the front of all.
-front : (t : List ℕ) (z₀ : rules-line.State) (p : ℕ) (es : List Entry) (z : rules-line.State) → ReadTo 16 z₀ t p es z
-    → (all : List Entry) (end : rules-line.State) → readFrom 16 z₀ (linesOf t) ≡ reads all end → (ys : List Entry) × (all ≡ es ++ ys)
-front t z₀ p es z r all end e = go (readFrom 16 z (linesOf (drop p t))) (sym e ∙ read-rest 16 z₀ t p es z r)
+front : (lim : LineLimits) (t : List ℕ) (z₀ : rules-line.State) (p : ℕ) (es : List Entry) (z : rules-line.State) → ReadTo lim z₀ t p es z
+    → (all : List Entry) (end : rules-line.State) → readFrom lim z₀ (linesOf t) ≡ reads all end → (ys : List Entry) × (all ≡ es ++ ys)
+front lim t z₀ p es z r all end e = go (readFrom lim z (linesOf (drop p t))) (sym e ∙ read-rest lim z₀ t p es z r)
   where
     go : (x : Reading) → reads all end ≡ withEntries es x → (ys : List Entry) × (all ≡ es ++ ys)
     go (reads ys y) q = let w : reads all end ≡ reads (es ++ ys) y = q ∙ withEntries-reads es ys y in (ys, cc)
@@ -93,50 +94,50 @@ front t z₀ p es z r all end e = go (readFrom 16 z (linesOf (drop p t))) (sym e
 not-both : {x : Reading} {es all : List Entry} {z : rules-line.State} {h : Halt} → x ≡ reads all z → x ≡ halts es h → ⊥
 not-both e f = let b : _≡_ {A = ℕ} 0 1 = cc in omega arith
 
-module _ {t : List ℕ} {z₀ : rules-line.State} {es : List Entry} {widths : List ℕ} {q c k : ℕ} {s : State} (v : PassTo t z₀ es widths q c k s) (h : q < length t) where
+module _ {lim : LineLimits} {t : List ℕ} {z₀ : rules-line.State} {es : List Entry} {widths : List ℕ} {q c k : ℕ} {s : State} (v : PassTo lim t z₀ es widths q c k s) (h : q < length t) where
   abbrev z : rules-line.State
   z = stateOf s widths
 
   -- where all lines read, the next one does, with what follows it
-  next-of : (all : List Entry) (end : rules-line.State) → readFrom 16 z₀ (linesOf t) ≡ reads all end
-      → (ts : List Token) × (y : rules-line.State) × (readLine 16 z (lineAt t q) ≡ lineReads ts y) × (c + 1 ≤ length all) × (k + length ts ≤ tokenSum all)
+  next-of : (all : List Entry) (end : rules-line.State) → readFrom lim z₀ (linesOf t) ≡ reads all end
+      → (ts : List Token) × (y : rules-line.State) × (readLine lim z (lineAt t q) ≡ lineReads ts y) × (c + 1 ≤ length all) × (k + length ts ≤ tokenSum all)
   unfolding tokenSum
-  next-of all end e = go (readLine 16 z (lineAt t q)) refl
+  next-of all end e = go (readLine lim z (lineAt t q)) refl
     where
-      go : (x : LineReply) → readLine 16 z (lineAt t q) ≡ x
-          → (ts : List Token) × (y : rules-line.State) × (readLine 16 z (lineAt t q) ≡ lineReads ts y) × (c + 1 ≤ length all) × (k + length ts ≤ tokenSum all)
+      go : (x : LineReply) → readLine lim z (lineAt t q) ≡ x
+          → (ts : List Token) × (y : rules-line.State) × (readLine lim z (lineAt t q) ≡ lineReads ts y) × (c + 1 ≤ length all) × (k + length ts ≤ tokenSum all)
       go (lineReads ts y) l =
           let x : Entry = entry z (sizeAt t q) ts in
-          let f = front t z₀ (q + sizeAt t q) (es ++ (x ∷ [])) y (read-line 16 z₀ t q es z (v .to) ts y h l) all end e in (
+          let f = front lim t z₀ (q + sizeAt t q) (es ++ (x ∷ [])) y (read-line lim z₀ t q es z (v .to) ts y h l) all end e in (
             ts,
             y,
             l,
             omega (arith, ap length (f .1), length-append (es ++ (x ∷ [])) (f .0), length-append es (x ∷ []), v .count),
             omega (arith, ap tokenSum (f .1), tokenSum-append (es ++ (x ∷ [])) (f .0), tokenSum-append es (x ∷ []), v .sum),
           )
-      go (lineHalts x) l = absurd (not-both e (read-stuck 16 z₀ t q es z (v .to) x h l))
+      go (lineHalts x) l = absurd (not-both e (read-stuck lim z₀ t q es z (v .to) x h l))
 
-  next-room : (i first lines tokens : ℕ) (x : Reading) → readFrom 16 z₀ (linesOf t) ≡ x → RoomFrom x i first lines tokens
-      → (lineSize * (i + c) + lineSize ≤ lines) × RoomIn (readLine 16 z (lineAt t q)) (first + k) tokens
+  next-room : (i first lines tokens : ℕ) (x : Reading) → readFrom lim z₀ (linesOf t) ≡ x → RoomFrom x i first lines tokens
+      → (lineSize * (i + c) + lineSize ≤ lines) × RoomIn (readLine lim z (lineAt t q)) (first + k) tokens
   next-room i first lines tokens (halts all x) e r = absurd r
   next-room i first lines tokens (reads all end) e r =
       let n = next-of all end e in
       (omega (arith, r .0, n .3), rw (n .2) (omega (arith, r .1, n .4)))
 
-  next-few : (first : ℕ) (x : Reading) → readFrom 16 z₀ (linesOf t) ≡ x → FewFrom x first → first + k ≤ 3_000_000
+  next-few : (first : ℕ) (x : Reading) → readFrom lim z₀ (linesOf t) ≡ x → FewFrom x first → first + k ≤ 3_000_000
   next-few first (halts all x) e r = absurd r
   next-few first (reads all end) e r = omega (arith, r, next-of all end e .4)
 
   -- the next line's token and, where the pass writes, its room
-  pub may-next : {write : Bool} {end kept i first lines tokens : ℕ} → MayPut write (readFrom 16 z₀ (linesOf t)) end kept i first lines tokens → k ≤ 3_000_000
-      → (first + k ≤ 3_000_000) × (write ≡ true → (lineSize * (i + c) + lineSize ≤ lines) × RoomIn (readLine 16 z (lineAt t q)) (first + k) tokens)
+  pub may-next : {write : Bool} {end kept i first lines tokens : ℕ} → MayPut write (readFrom lim z₀ (linesOf t)) end kept i first lines tokens → k ≤ 3_000_000
+      → (first + k ≤ 3_000_000) × (write ≡ true → (lineSize * (i + c) + lineSize ≤ lines) × RoomIn (readLine lim z (lineAt t q)) (first + k) tokens)
   may-next {i = i} {first} {lines} {tokens} r few =
-      (⊎-elim (λ (e : first ≡ 0). omega (arith, e)) (λ (x : FewFrom (readFrom 16 z₀ (linesOf t)) first). next-few first _ refl x) (r .few), λ e. next-room i first lines tokens _ refl (r .room e))
+      (⊎-elim (λ (e : first ≡ 0). omega (arith, e)) (λ (x : FewFrom (readFrom lim z₀ (linesOf t)) first). next-few first _ refl x) (r .few), λ e. next-room i first lines tokens _ refl (r .room e))
 
   -- the next line is written
   pub put-next : {write : Bool} {base i first : ℕ} {lines₀ tokens₀ lines tokens lines′ tokens′ : List ℕ} → PutTo write base i first lines₀ tokens₀ es lines tokens
-      → (ts : List Token) (y : rules-line.State) → readLine 16 z (lineAt t q) ≡ lineReads ts y → lines′ ≡ putIf write lines (lineSize * (i + c)) (lineRecord (base + q) (first + k) z)
-      → tokens′ ≡ putIf write tokens (tokenSize * (first + k)) (tokenWords (base + q) (i + c + 1) (tokensIn (readLine 16 z (lineAt t q))))
+      → (ts : List Token) (y : rules-line.State) → readLine lim z (lineAt t q) ≡ lineReads ts y → lines′ ≡ putIf write lines (lineSize * (i + c)) (lineRecord (base + q) (first + k) z)
+      → tokens′ ≡ putIf write tokens (tokenSize * (first + k)) (tokenWords (base + q) (i + c + 1) (tokensIn (readLine lim z (lineAt t q))))
       → PutTo write base i first lines₀ tokens₀ (es ++ (entry z (sizeAt t q) ts ∷ [])) lines′ tokens′
   put-next {write} {base} {i} {first} {lines₀} {tokens₀} {lines} {tokens} {lines′} {tokens′} w ts y l el et =
       let x : Entry = entry z (sizeAt t q) ts in

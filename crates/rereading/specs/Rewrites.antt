@@ -11,7 +11,7 @@ use Rattle.rules.specs.Reading.{Reading, reads, halts, tokenSum}
 use Rattle.rules.specs.Records.{widthWords, lineSize, tokenSize}
 use Rattle.records.specs.States.{stateOf}
 use Rattle.rereading.specs.declared.Reread.{Reread}
-use Rattle.rereading.specs.declared.Reread.the-variants.{Stops, Ends, Fails, TooDeep}
+use Rattle.rereading.specs.declared.Reread.the-variants.{Stops, Ends, Refused}
 
 -- the lines read, and buffers of these lengths hold their records from record i and token k on
 abbrev pub RoomFrom : Reading → (i k lines tokens : ℕ) → Type 0
@@ -38,5 +38,4 @@ Reaches (halts es h) s = ⊥
 abbrev pub EndsIn : Reading → (widths : List ℕ) → Reread → Type 0
 EndsIn x widths (Ends c k s) = Reaches x (stateOf s widths) × (s .levels ≤ widthWords)
 EndsIn x widths (Stops c k q j) = Unit {0}
-EndsIn x widths (Fails r) = Unit {0}
-EndsIn x widths (TooDeep l) = Unit {0}
+EndsIn x widths (Refused u) = Unit {0}

@@ -13,6 +13,7 @@ ghost use Rattle.spelling.specs.Rows.{keywordTable};
 ghost use Rattle.spelling.specs.Signs.{signTable, signIndexTable};
 ghost use Rattle.records.specs.States.{stateOf};
 ghost use Rattle.line.specs.LineCuts.{tokensIn, RoomIn};
+ghost use Rattle.refusals.specs.Limits.{lineLimitsOf};
 ghost use Rattle.laws.specs.Puts.{putIf};
 ghost use Rattle.rereading.specs.Words.{oldByte, FirstFrom, stopsAt};
 ghost use Rattle.rereading.specs.Rereads.{RereadIs};
@@ -79,12 +80,11 @@ fn stops_at(
 }
 
 // What reading on gives: a stop after so many lines, tokens and bytes, at an old line; the end after so many lines and tokens, in a
-// state; the first failure; or the line of a level too many.
+// state; or why the next line does not read.
 pub enum Reread {
     Stops(usize, usize, usize, usize),
     Ends(usize, usize, records::State),
-    Fails(lines::FailureRecord),
-    TooDeep(usize),
+    Refused(refusals::Unread),
 }
 
 // The lines of a text that begins at byte `base` of the whole, with line i and token `first`, read from a state on, up to the stop rule
@@ -108,6 +108,7 @@ pub fn read_on(
     write: bool,
     i: usize,
     first: usize,
+    limits: refusals::LineLimits,
     widths: &mut [u32],
     start: records::State,
 ) -> Reread
@@ -118,12 +119,12 @@ pub fn read_on(
     requires { ⌜ now keywords ≡ keywordTable ⌝ }
     requires { ⌜ (base + length (now text) ≤ 1_048_576) × ((i ≤ base) × ((from ≤ m) × (b ≤ 4_294_967_295))) ⌝ }
     requires { ⌜ (m ≤ 4_294_967_295) × (lineSize * (m + 1) ≤ length (now old)) ⌝ }
-    requires { ⌜ (start .depth ≤ base) × ((start .levels ≤ widthWords) × (length (now widths) ≡ widthWords)) ⌝ }
-    requires { ⌜ MayPut write (readFrom 16 (stateOf start (now widths)) (linesOf (now text))) (base + length (now text)) kept i first (length (now lines)) (length (now tokens)) ⌝ }
-    ensures { λ r. ⌜ RereadIs (now (text .entry)) (now (old .entry)) base i m from b kept (stateOf start (now (widths .entry))) r ⌝ }
-    ensures { λ r. ⌜ EndsIn (readFrom 16 (stateOf start (now (widths .entry))) (linesOf (now (text .entry)))) (now (widths .exit)) r ⌝ }
-    ensures { λ _. ⌜ now (lines .exit) ≡ putIf write (now (lines .entry)) (lineSize * i) (lineRecords base first (linesRead (readFrom 16 (stateOf start (now (widths .entry))) (linesOf (now (text .entry)))))) ⌝ }
-    ensures { λ _. ⌜ now (tokens .exit) ≡ putIf write (now (tokens .entry)) (tokenSize * first) (tokenRecords base (i + 1) (linesRead (readFrom 16 (stateOf start (now (widths .entry))) (linesOf (now (text .entry)))))) ⌝ }
+    requires { ⌜ (start .depth ≤ base) × ((start .levels ≤ widthWords) × (length (now widths) ≡ widthWords) × (limits .levels ≤ 16)) ⌝ }
+    requires { ⌜ MayPut write (readFrom (lineLimitsOf limits) (stateOf start (now widths)) (linesOf (now text))) (base + length (now text)) kept i first (length (now lines)) (length (now tokens)) ⌝ }
+    ensures { λ r. ⌜ RereadIs (lineLimitsOf limits) (now (text .entry)) (now (old .entry)) base i m from b kept (stateOf start (now (widths .entry))) r ⌝ }
+    ensures { λ r. ⌜ EndsIn (readFrom (lineLimitsOf limits) (stateOf start (now (widths .entry))) (linesOf (now (text .entry)))) (now (widths .exit)) r ⌝ }
+    ensures { λ _. ⌜ now (lines .exit) ≡ putIf write (now (lines .entry)) (lineSize * i) (lineRecords base first (linesRead (readFrom (lineLimitsOf limits) (stateOf start (now (widths .entry))) (linesOf (now (text .entry)))))) ⌝ }
+    ensures { λ _. ⌜ now (tokens .exit) ≡ putIf write (now (tokens .entry)) (tokenSize * first) (tokenRecords base (i + 1) (linesRead (readFrom (lineLimitsOf limits) (stateOf start (now (widths .entry))) (linesOf (now (text .entry)))))) ⌝ }
 {
     let mut q: usize = 0;
     let mut c: usize = 0;
@@ -149,6 +150,7 @@ pub fn read_on(
             write,
             i + c,
             first + k,
+            limits,
             widths,
             s,
         ) {
@@ -158,11 +160,8 @@ pub fn read_on(
                 k += n;
                 s = z;
             }
-            lines::Step::Fails(f) => {
-                return Reread::Fails(f);
-            }
-            lines::Step::TooDeep => {
-                return Reread::TooDeep(i + c + 1);
+            lines::Step::Refused(u) => {
+                return Reread::Refused(u);
             }
         }
     }
@@ -183,6 +182,7 @@ pub fn rewrite_lines(
     tokens: &mut [u32],
     i: usize,
     first: usize,
+    limits: refusals::LineLimits,
     widths: &mut [u32],
     start: records::State,
 ) -> records::State
@@ -192,12 +192,12 @@ pub fn rewrite_lines(
     requires { ⌜ now signs ≡ signTable ⌝ }
     requires { ⌜ now keywords ≡ keywordTable ⌝ }
     requires { ⌜ (base + length (now text) ≤ 1_048_576) × (i ≤ base) ⌝ }
-    requires { ⌜ (start .depth ≤ base) × ((start .levels ≤ widthWords) × (length (now widths) ≡ widthWords)) ⌝ }
-    requires { ⌜ FewFrom (readFrom 16 (stateOf start (now widths)) (linesOf (now text))) first ⌝ }
-    requires { ⌜ RoomFrom (readFrom 16 (stateOf start (now widths)) (linesOf (now text))) i first (length (now lines)) (length (now tokens)) ⌝ }
-    ensures { λ r. ⌜ Reaches (readFrom 16 (stateOf start (now (widths .entry))) (linesOf (now (text .entry)))) (stateOf r (now (widths .exit))) × (r .levels ≤ widthWords) ⌝ }
-    ensures { λ _. ⌜ now (lines .exit) ≡ sets (now (lines .entry)) (lineSize * i) (lineRecords base first (linesRead (readFrom 16 (stateOf start (now (widths .entry))) (linesOf (now (text .entry)))))) ⌝ }
-    ensures { λ _. ⌜ now (tokens .exit) ≡ sets (now (tokens .entry)) (tokenSize * first) (tokenRecords base (i + 1) (linesRead (readFrom 16 (stateOf start (now (widths .entry))) (linesOf (now (text .entry)))))) ⌝ }
+    requires { ⌜ (start .depth ≤ base) × ((start .levels ≤ widthWords) × (length (now widths) ≡ widthWords) × (limits .levels ≤ 16)) ⌝ }
+    requires { ⌜ FewFrom (readFrom (lineLimitsOf limits) (stateOf start (now widths)) (linesOf (now text))) first ⌝ }
+    requires { ⌜ RoomFrom (readFrom (lineLimitsOf limits) (stateOf start (now widths)) (linesOf (now text))) i first (length (now lines)) (length (now tokens)) ⌝ }
+    ensures { λ r. ⌜ Reaches (readFrom (lineLimitsOf limits) (stateOf start (now (widths .entry))) (linesOf (now (text .entry)))) (stateOf r (now (widths .exit))) × (r .levels ≤ widthWords) ⌝ }
+    ensures { λ _. ⌜ now (lines .exit) ≡ sets (now (lines .entry)) (lineSize * i) (lineRecords base first (linesRead (readFrom (lineLimitsOf limits) (stateOf start (now (widths .entry))) (linesOf (now (text .entry)))))) ⌝ }
+    ensures { λ _. ⌜ now (tokens .exit) ≡ sets (now (tokens .entry)) (tokenSize * first) (tokenRecords base (i + 1) (linesRead (readFrom (lineLimitsOf limits) (stateOf start (now (widths .entry))) (linesOf (now (text .entry)))))) ⌝ }
 {
     let none: [u32; records::LINE] = [0; records::LINE];
     match read_on(
@@ -218,6 +218,7 @@ pub fn rewrite_lines(
         true,
         i,
         first,
+        limits,
         widths,
         start,
     ) {

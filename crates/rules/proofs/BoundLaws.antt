@@ -13,9 +13,9 @@ use Rattle.rules.specs.Lists.{if_then_else_, bit, any, elem, run, trimme
 use Rattle.rules.specs.Kinds.{LParen, RParen, Indent, Dedent, Newline}
 use Rattle.rules.specs.Tables.{isBlank, classOf}
 use Rattle.rules.specs.Cut.{Cut, blank, comment, ends, token, fails, cutBy, cut}
-use Rattle.rules.specs.Line.{State, initial, Token, tokenAt, Cuts, cuts, stops, withToken, cutStep, cutsFrom, isSpace, isTab, indentWidth, afterBlanks, isBlankLine, isCompared, Levels, levels, unequal, tooDeep, dedents, opened, closed, compared, levelsOf, depthAfter, arrowAfter, LineReply, lineReads, lineHalts, withCuts, withLevels, readLine}
+use Rattle.rules.specs.Line.{State, initial, Token, tokenAt, Cuts, cuts, stops, withToken, cutStep, cutsFrom, isSpace, isTab, indentWidth, afterBlanks, isBlankLine, isCompared, Levels, levels, unequal, beyond, dedents, opened, closed, compared, levelsOf, depthAfter, arrowAfter, LineReply, lineReads, lineHalts, withCuts, withLevels, readLine}
 use Rattle.rules.specs.Reading.{Line, linesOf, content, notLF, Entry, entry, Reading, reads, halts, readFrom, byteSum, tokenSum}
-use Rattle.rules.specs.Replies.{maxBytes, maxLevels, barge}
+use Rattle.rules.specs.Limits.{maxBytes, maxLevels, LineLimits}
 use Rattle.rules.specs.Records.{widthWords, lineSize, lineNeed, tokenNeed, packed, stateWords, lineRecord, tokenWords, lineRecords, tokenRecords, endEntry, withEnd, Records, recordsOf, recorded, readLines, Behind}
 use Rattle.rules.proofs.ListLaws.{if-by, and-true, run-true, trimEnd-le}
 use Rattle.rules.proofs.CutLaws.{TokenOk, CutOk, cut-ok, cuts-blank}
@@ -128,28 +128,28 @@ indented-two (b ∷ []) e h = let r : run isBlank (b ∷ []) ≡ 1 = run-true is
 indented-two (b ∷ c ∷ l) e h = omega arith
 
 -- of the open widths `had` before a line of n bytes and width w: whether it opens a level
-pub record LevelsOk (limit w n : ℕ) (had : List ℕ) (lead : List Token) (now : List ℕ) : Type 0 where
+pub record LevelsOk (lim : LineLimits) (w n : ℕ) (had : List ℕ) (lead : List Token) (now : List ℕ) : Type 0 where
   pub opens : ℕ
   pub opens-le : opens ≤ 1
   pub wide : opens ≤ w
   pub long : 2 * opens ≤ n
   pub count : length lead + length now ≤ length had + 2 * opens
   pub tokens : TokensOk 0 lead
-  pub limited : length had ≤ limit → length now ≤ limit
+  pub limited : (most : ℕ) → lim .levels ≤ most → length had ≤ most → length now ≤ most
   pub widths : (b : ℕ) → w ≤ b → AllLe b had → AllLe b now
 
-abbrev LevelsHold : (limit w n : ℕ) → List ℕ → Levels → Type 0
-LevelsHold limit w n had (levels lead now) = LevelsOk limit w n had lead now
-LevelsHold limit w n had unequal = Unit {0}
-LevelsHold limit w n had tooDeep = Unit {0}
+abbrev LevelsHold : LineLimits → (w n : ℕ) → List ℕ → Levels → Type 0
+LevelsHold lim w n had (levels lead now) = LevelsOk lim w n had lead now
+LevelsHold lim w n had unequal = Unit {0}
+LevelsHold lim w n had (beyond number) = Unit {0}
 
-closed-hold : (limit w n : ℕ) (had : List ℕ) → LevelsHold limit w n had (closed w had (trimEnd (ltb w) had))
+closed-hold : (lim : LineLimits) (w n : ℕ) (had : List ℕ) → LevelsHold lim w n had (closed w had (trimEnd (ltb w) had))
 unfolding closed
-closed-hold limit w n had =
+closed-hold lim w n had =
     let left : List ℕ = trimEnd (ltb w) had in
     let le : length left ≤ length had = trimEnd-le (ltb w) had in
     let count : length (dedents (length had - length left)) ≡ length had - length left = length-replicate (length had - length left) (tokenAt Dedent 0 0) in
-    if-by (LevelsHold limit w n had) (eqb (lastD left 0) w)
+    if-by (LevelsHold lim w n had) (eqb (lastD left 0) w)
     (λ _. record {
       opens = 0;
       opens-le = zero-le;
@@ -157,16 +157,16 @@ closed-hold limit w n had =
       long = zero-le;
       count = omega arith;
       tokens = dedents-ok 0 (length had - length left);
-      limited = λ h. omega arith;
+      limited = λ most hm h. omega arith;
       widths = λ b h k. trimEnd-all b (ltb w) had k;
     })
     (λ _. tt)
 
-compared-hold : (limit w n : ℕ) (had : List ℕ) → (0 < w → 2 ≤ n) → LevelsHold limit w n had (compared limit w had)
+compared-hold : (lim : LineLimits) (w n : ℕ) (had : List ℕ) → (0 < w → 2 ≤ n) → LevelsHold lim w n had (compared lim w had)
 unfolding compared opened
-compared-hold limit w n had two =
-    if-by (LevelsHold limit w n had) (ltb (lastD had 0) w)
-    (λ v. if-by (LevelsHold limit w n had) (ltb (length had) limit)
+compared-hold lim w n had two =
+    if-by (LevelsHold lim w n had) (ltb (lastD had 0) w)
+    (λ v. if-by (LevelsHold lim w n had) (ltb (length had) (lim .levels))
     (λ x. record {
       opens = 1;
       opens-le = omega arith;
@@ -174,18 +174,18 @@ compared-hold limit w n had two =
       long = two (omega (arith, ltb-true (lastD had 0) w v));
       count = omega (arith, length-append had (w ∷ []));
       tokens = (omega arith, omega arith, tt);
-      limited = λ h. omega (arith, length-append had (w ∷ []), ltb-true (length had) limit x);
+      limited = λ most hm h. omega (arith, length-append had (w ∷ []), ltb-true (length had) (lim .levels) x);
       widths = λ b h k. all-append b had (w ∷ []) k (h, tt);
     })
     (λ _. tt))
-    (λ _. closed-hold limit w n had)
+    (λ _. closed-hold lim w n had)
 
-levels-hold : (limit : ℕ) (s : State) (l : List ℕ) → LevelsHold limit (indentWidth l) (length l) (s .widths) (levelsOf limit s l)
+levels-hold : (lim : LineLimits) (s : State) (l : List ℕ) → LevelsHold lim (indentWidth l) (length l) (s .widths) (levelsOf lim s l)
 unfolding levelsOf isCompared
-levels-hold limit s l =
-    if-by (LevelsHold limit (indentWidth l) (length l) (s .widths)) (isCompared s l)
-    (λ c. compared-hold limit (indentWidth l) (length l) (s .widths) (indented-two l (not-true (isBlankLine l) (and-true (not (isBlankLine l)) _ c .0))))
-    (λ _. record { opens = 0; opens-le = zero-le; wide = zero-le; long = zero-le; count = omega arith; tokens = tt; limited = λ h. h; widths = λ b h k. k })
+levels-hold lim s l =
+    if-by (LevelsHold lim (indentWidth l) (length l) (s .widths)) (isCompared s l)
+    (λ c. compared-hold lim (indentWidth l) (length l) (s .widths) (indented-two l (not-true (isBlankLine l) (and-true (not (isBlankLine l)) _ c .0))))
+    (λ _. record { opens = 0; opens-le = zero-le; wide = zero-le; long = zero-le; count = omega arith; tokens = tt; limited = λ most hm h. h; widths = λ b h k. k })
 
 -- the cuts of a line: none is at a leading blank
 blank-cut : (b : ℕ) (l : List ℕ) → isBlank b ≡ true → cut (b ∷ l) ≡ blank
@@ -216,18 +216,18 @@ unfolding depthAfter
 depth-le d [] = omega arith
 depth-le d (t ∷ ts) = omega (arith, depth-step d (t .kind), depth-le (if eqb (t .kind) LParen then suc d else if eqb (t .kind) RParen then pred d else d) ts)
 
-pub record LineOk (limit : ℕ) (s : State) (n : ℕ) (ts : List Token) (z : State) : Type 0 where
+pub record LineOk (lim : LineLimits) (s : State) (n : ℕ) (ts : List Token) (z : State) : Type 0 where
   pub count : length ts + length (z .widths) ≤ length (s .widths) + max (n + 1) (2 * n)
   pub tokens : TokensOk n ts
   pub depth : z .depth ≤ s .depth + n
-  pub limited : length (s .widths) ≤ limit → length (z .widths) ≤ limit
+  pub limited : (most : ℕ) → lim .levels ≤ most → length (s .widths) ≤ most → length (z .widths) ≤ most
   pub widths : (b : ℕ) → 4 * n ≤ b → AllLe b (s .widths) → AllLe b (z .widths)
 
-cuts-line : (limit : ℕ) (s : State) (l : List ℕ) (lead : List Token) (now : List ℕ) → LevelsOk limit (indentWidth l) (length l) (s .widths) lead now
-    → (c : Cuts) → cutsFrom 0 0 l ≡ c → (ts : List Token) (z : State) → withCuts s l lead now c ≡ lineReads ts z → LineOk limit s (length l) ts z
+cuts-line : (lim : LineLimits) (s : State) (l : List ℕ) (lead : List Token) (now : List ℕ) → LevelsOk lim (indentWidth l) (length l) (s .widths) lead now
+    → (c : Cuts) → cutsFrom 0 0 l ≡ c → (ts : List Token) (z : State) → withCuts s l lead now c ≡ lineReads ts z → LineOk lim s (length l) ts z
 unfolding withCuts
-cuts-line limit s l lead now o (stops f) e ts z h = let n : _≡_ {A = ℕ} 0 1 = cc in absurd (omega arith)
-cuts-line limit s l lead now o (cuts us) e ts z h =
+cuts-line lim s l lead now o (stops f) e ts z h = let n : _≡_ {A = ℕ} 0 1 = cc in absurd (omega arith)
+cuts-line lim s l lead now o (cuts us) e ts z h =
     let c = cuts-ok 0 0 l us e in
     let ht : ts ≡ lead ++ (us ++ (tokenAt Newline (length l) 0 ∷ [])) = cc in
     let hz : z ≡ record { depth = depthAfter (s .depth) us; arrow = arrowAfter false us; widths = now } = cc in
@@ -240,16 +240,16 @@ cuts-line limit s l lead now o (cuts us) e ts z h =
       widths = λ b h k. o .widths b (omega (arith, indentWidth-le l)) k;
     }
 
-levels-line : (limit : ℕ) (s : State) (l : List ℕ) (v : Levels) → LevelsHold limit (indentWidth l) (length l) (s .widths) v
-    → (ts : List Token) (z : State) → withLevels s l v ≡ lineReads ts z → LineOk limit s (length l) ts z
+levels-line : (lim : LineLimits) (s : State) (l : List ℕ) (v : Levels) → LevelsHold lim (indentWidth l) (length l) (s .widths) v
+    → (ts : List Token) (z : State) → withLevels s l v ≡ lineReads ts z → LineOk lim s (length l) ts z
 unfolding withLevels
-levels-line limit s l (levels lead now) o ts z h = cuts-line limit s l lead now o (cutsFrom 0 0 l) refl ts z h
-levels-line limit s l unequal o ts z h = let n : _≡_ {A = ℕ} 0 1 = cc in absurd (omega arith)
-levels-line limit s l tooDeep o ts z h = let n : _≡_ {A = ℕ} 0 1 = cc in absurd (omega arith)
+levels-line lim s l (levels lead now) o ts z h = cuts-line lim s l lead now o (cutsFrom 0 0 l) refl ts z h
+levels-line lim s l unequal o ts z h = let n : _≡_ {A = ℕ} 0 1 = cc in absurd (omega arith)
+levels-line lim s l (beyond number) o ts z h = let n : _≡_ {A = ℕ} 0 1 = cc in absurd (omega arith)
 
-pub line-ok : (limit : ℕ) (s : State) (l : List ℕ) (ts : List Token) (z : State) → readLine limit s l ≡ lineReads ts z → LineOk limit s (length l) ts z
+pub line-ok : (lim : LineLimits) (s : State) (l : List ℕ) (ts : List Token) (z : State) → readLine lim s l ≡ lineReads ts z → LineOk lim s (length l) ts z
 unfolding readLine
-line-ok limit s l ts z h = levels-line limit s l (levelsOf limit s l) (levels-hold limit s l) ts z h
+line-ok lim s l ts z h = levels-line lim s l (levelsOf lim s l) (levels-hold lim s l) ts z h
 
 -- Lines read from s to z.
 
@@ -275,40 +275,40 @@ nonempty-le [] h = zero-le
 nonempty-le (l ∷ ls) h = omega (arith, h .0, nonempty-le ls (h .1))
 
 -- the tokens with the levels left open: at most two for each byte
-pub count-le : (limit : ℕ) (s : State) (ls : List Line) (es : List Entry) (z : State) → Nonempty ls → readFrom limit s ls ≡ reads es z
+pub count-le : (lim : LineLimits) (s : State) (ls : List Line) (es : List Entry) (z : State) → Nonempty ls → readFrom lim s ls ≡ reads es z
     → tokenSum es + length (z .widths) ≤ length (s .widths) + 2 * total ls
 unfolding readFrom tokenSum
-count-le limit s [] es z n h =
+count-le lim s [] es z n h =
     let c : es ≡ [] = cc in
     let d : s ≡ z = cc in
     rw (c, d) (omega arith)
-count-le limit s (l ∷ ls) es z n h =
-    let st = step limit s l (readLine limit s (content l)) (λ y. readFrom limit y ls) es z h in
-    let o = line-ok limit s (content l) (st .ts) (st .mid) (st .line-is) in
-    let ih = count-le limit (st .mid) ls (st .rest) z (n .1) (st .rest-is) in
+count-le lim s (l ∷ ls) es z n h =
+    let st = step lim s l (readLine lim s (content l)) (λ y. readFrom lim y ls) es z h in
+    let o = line-ok lim s (content l) (st .ts) (st .mid) (st .line-is) in
+    let ih = count-le lim (st .mid) ls (st .rest) z (n .1) (st .rest-is) in
     rw (st .entries-are) (omega (arith, o .count, content-le l, ih, n .0))
 
-pub record StateOk (limit b : ℕ) (s : State) : Type 0 where
-  pub limited : length (s .widths) ≤ limit
+pub record StateOk (most b : ℕ) (s : State) : Type 0 where
+  pub limited : length (s .widths) ≤ most
   pub depth : s .depth ≤ b
   pub widths : AllLe b (s .widths)
 
-abbrev pub EntriesOk : (limit b : ℕ) → List Entry → Type 0
-EntriesOk limit b [] = Unit {0}
-EntriesOk limit b (e ∷ es) = StateOk limit b (e .before) × TokensOk (e .size) (e .tokens) × EntriesOk limit b es
+abbrev pub EntriesOk : (most b : ℕ) → List Entry → Type 0
+EntriesOk most b [] = Unit {0}
+EntriesOk most b (e ∷ es) = StateOk most b (e .before) × TokensOk (e .size) (e .tokens) × EntriesOk most b es
 
-pub entries-ok : (limit b : ℕ) (s : State) (ls : List Line) (es : List Entry) (z : State) → readFrom limit s ls ≡ reads es z
-    → length (s .widths) ≤ limit → AllLe b (s .widths) → s .depth + 4 * total ls ≤ b → EntriesOk limit b es × StateOk limit b z
+pub entries-ok : (lim : LineLimits) (most b : ℕ) → lim .levels ≤ most → (s : State) (ls : List Line) (es : List Entry) (z : State) → readFrom lim s ls ≡ reads es z
+    → length (s .widths) ≤ most → AllLe b (s .widths) → s .depth + 4 * total ls ≤ b → EntriesOk most b es × StateOk most b z
 unfolding readFrom
-entries-ok limit b s [] es z h hl hw hb =
+entries-ok lim most b hm s [] es z h hl hw hb =
     let c : es ≡ [] = cc in
     let d : s ≡ z = cc in
     rw (c, ← d) (tt, record { limited = hl; depth = omega arith; widths = hw })
-entries-ok limit b s (l ∷ ls) es z h hl hw hb =
-    let st = step limit s l (readLine limit s (content l)) (λ y. readFrom limit y ls) es z h in
-    let o = line-ok limit s (content l) (st .ts) (st .mid) (st .line-is) in
+entries-ok lim most b hm s (l ∷ ls) es z h hl hw hb =
+    let st = step lim s l (readLine lim s (content l)) (λ y. readFrom lim y ls) es z h in
+    let o = line-ok lim s (content l) (st .ts) (st .mid) (st .line-is) in
     let c = content-le l in
-    let ih = entries-ok limit b (st .mid) ls (st .rest) z (st .rest-is) (o .limited hl) (o .widths b (omega (arith, c)) hw) (omega (arith, o .depth, c)) in
+    let ih = entries-ok lim most b hm (st .mid) ls (st .rest) z (st .rest-is) (o .limited most hm hl) (o .widths b (omega (arith, c)) hw) (omega (arith, o .depth, c)) in
     rw (st .entries-are) (
       (record { limited = hl; depth = omega arith; widths = hw }, tokens-le (length (content l)) (length l) (st .ts) c (o .tokens), ih .0),
       ih .1,
@@ -346,7 +346,7 @@ all-token-words b p l (e ∷ es) h o hp hl =
     all-append b (tokenWords p l (e .tokens)) _ (token-words b p l (e .size) (e .tokens) h (o .1) (omega arith) (omega arith))
     (all-token-words b (p + e .size) (suc l) es h (o .2) (omega arith) (omega arith))
 
--- A text within the limit that reads.
+-- A text within the limits that reads.
 
 -- what every word is bounded by, far below 2 ^ 32
 abbrev pub wordMax : ℕ
@@ -361,29 +361,29 @@ pub record Small (r : Records) : Type 0 where
   pub lines : AllLe wordMax (r .lines)
   pub tokens : AllLe wordMax (r .tokens)
 
-entries-append : (limit b : ℕ) (xs ys : List Entry) → EntriesOk limit b xs → EntriesOk limit b ys → EntriesOk limit b (xs ++ ys)
-entries-append limit b [] ys h k = k
-entries-append limit b (e ∷ xs) ys h k = (h .0, h .1, entries-append limit b xs ys (h .2) k)
+entries-append : (most b : ℕ) (xs ys : List Entry) → EntriesOk most b xs → EntriesOk most b ys → EntriesOk most b (xs ++ ys)
+entries-append most b [] ys h k = k
+entries-append most b (e ∷ xs) ys h k = (h .0, h .1, entries-append most b xs ys (h .2) k)
 
-pub fresh-small : (t : List ℕ) (r : Records) → length t ≤ maxBytes → readLines barge t ≡ recorded r → Small r
+pub fresh-small : (lim : LineLimits) → lim .levels ≤ maxLevels → (t : List ℕ) (r : Records) → length t ≤ maxBytes → readLines lim t ≡ recorded r → Small r
 unfolding byteSum tokenSum recordsOf
-fresh-small t r ht h = rw (b .records-are) (go (b .entries) (b .end) (b .reads-are))
+fresh-small lim hm t r ht h = rw (b .records-are) (go (b .entries) (b .end) (b .reads-are))
   where
-    b : Behind t r
-    b = behind t r h
+    b : Behind lim t r
+    b = behind lim t r h
 
-    go : (es : List Entry) (z : State) → readFrom maxLevels initial (linesOf t) ≡ reads es z → Small (recordsOf es z)
+    go : (es : List Entry) (z : State) → readFrom lim initial (linesOf t) ≡ reads es z → Small (recordsOf es z)
     go es z e =
         let n : total (linesOf t) ≡ length t = total-lines t in
-        let s = read-sizes maxLevels initial (linesOf t) es z e in
+        let s = read-sizes lim initial (linesOf t) es z e in
         let ne : Nonempty (linesOf t) = lines-nonempty t (linesOf t) refl in
         let m : length (linesOf t) ≤ total (linesOf t) = nonempty-le (linesOf t) ne in
-        let c : tokenSum es + length (z .widths) ≤ 0 + 2 * total (linesOf t) = count-le maxLevels initial (linesOf t) es z ne e in
+        let c : tokenSum es + length (z .widths) ≤ 0 + 2 * total (linesOf t) = count-le lim initial (linesOf t) es z ne e in
         let w : length (dedents (length (z .widths))) ≡ length (z .widths) = length-replicate (length (z .widths)) (tokenAt Dedent 0 0) in
         let k : tokenSum (withEnd es z) ≡ tokenSum es + length (z .widths) = omega (arith, tokenSum-append es (endEntry z ∷ [])) in
         let d : byteSum (withEnd es z) ≡ byteSum es = omega (arith, byteSum-append es (endEntry z ∷ [])) in
         let x : length (withEnd es z) ≡ suc (length es) = omega (arith, length-append es (endEntry z ∷ [])) in
-        let o = entries-ok maxLevels wordMax initial (linesOf t) es z e zero-le tt (omega arith) in
+        let o = entries-ok lim maxLevels wordMax hm initial (linesOf t) es z e zero-le tt (omega arith) in
         let oe : EntriesOk maxLevels wordMax (withEnd es z) =
         entries-append maxLevels wordMax es (endEntry z ∷ []) (o .0) (o .1, dedents-ok 0 (length (z .widths)), tt) in
         record {
@@ -402,35 +402,35 @@ pub record GrownTo (s : State) (p : ℕ) (es : List Entry) (z : State) : Type 0 
   pub tokens : tokenSum es + length (z .widths) ≤ length (s .widths) + 2 * p
   pub depth : z .depth ≤ s .depth + p
 
-depth-grows : (limit : ℕ) (s : State) (ls : List Line) (es : List Entry) (z : State) → readFrom limit s ls ≡ reads es z → z .depth ≤ s .depth + total ls
+depth-grows : (lim : LineLimits) (s : State) (ls : List Line) (es : List Entry) (z : State) → readFrom lim s ls ≡ reads es z → z .depth ≤ s .depth + total ls
 unfolding readFrom
-depth-grows limit s [] es z h =
+depth-grows lim s [] es z h =
     let d : s ≡ z = cc in
     rw (← d) (omega arith)
-depth-grows limit s (l ∷ ls) es z h =
-    let st = step limit s l (readLine limit s (content l)) (λ y. readFrom limit y ls) es z h in
-    omega (arith, line-ok limit s (content l) (st .ts) (st .mid) (st .line-is) .depth, content-le l, depth-grows limit (st .mid) ls (st .rest) z (st .rest-is))
+depth-grows lim s (l ∷ ls) es z h =
+    let st = step lim s l (readLine lim s (content l)) (λ y. readFrom lim y ls) es z h in
+    omega (arith, line-ok lim s (content l) (st .ts) (st .mid) (st .line-is) .depth, content-le l, depth-grows lim (st .mid) ls (st .rest) z (st .rest-is))
 
-pub read-grown : (limit : ℕ) (s : State) (t : List ℕ) (p : ℕ) (es : List Entry) (z : State) → ReadTo limit s t p es z → GrownTo s p es z
-read-grown limit s t p es z r =
-    let n = read-sizes limit s (r .lines) es z (r .reads-are) in
+pub read-grown : (lim : LineLimits) (s : State) (t : List ℕ) (p : ℕ) (es : List Entry) (z : State) → ReadTo lim s t p es z → GrownTo s p es z
+read-grown lim s t p es z r =
+    let n = read-sizes lim s (r .lines) es z (r .reads-are) in
     let ne : Nonempty (r .lines) = nonempty-front (r .lines) (linesOf (drop p t)) (lines-nonempty t (r .lines ++ linesOf (drop p t)) (r .split)) in
-    let c = count-le limit s (r .lines) es z ne (r .reads-are) in
-    let d = depth-grows limit s (r .lines) es z (r .reads-are) in
+    let c = count-le lim s (r .lines) es z ne (r .reads-are) in
+    let d = depth-grows lim s (r .lines) es z (r .reads-are) in
     let m = nonempty-le (r .lines) ne in
     record { lines = omega (arith, n .0, n .1, r .bytes); tokens = omega (arith, n .1, r .bytes); depth = omega (arith, n .1, r .bytes) }
 
--- A reading that has come to byte p of a text within the limit: what a loop has so far is small.
+-- A reading that has come to byte p of a text within the limits: what a loop has so far is small.
 pub record SmallAt (p : ℕ) (es : List Entry) (z : State) : Type 0 where
   pub lines : length es ≤ p
   pub tokens : tokenSum es + length (z .widths) ≤ 2 * p
   pub entries : EntriesOk maxLevels wordMax es
   pub state : StateOk maxLevels wordMax z
 
-pub read-small : (t : List ℕ) (p : ℕ) (es : List Entry) (z : State) → length t ≤ maxBytes → p ≤ length t → ReadTo maxLevels initial t p es z → SmallAt p es z
-read-small t p es z ht hp r =
-    let n = read-sizes maxLevels initial (r .lines) es z (r .reads-are) in
-    let g = read-grown maxLevels initial t p es z r in
-    let o = entries-ok maxLevels wordMax initial (r .lines) es z (r .reads-are) zero-le tt (omega (arith, n .1, r .bytes)) in
+pub read-small : (lim : LineLimits) → lim .levels ≤ maxLevels → (t : List ℕ) (p : ℕ) (es : List Entry) (z : State) → length t ≤ maxBytes → p ≤ length t → ReadTo lim initial t p es z → SmallAt p es z
+read-small lim hm t p es z ht hp r =
+    let n = read-sizes lim initial (r .lines) es z (r .reads-are) in
+    let g = read-grown lim initial t p es z r in
+    let o = entries-ok lim maxLevels wordMax hm initial (r .lines) es z (r .reads-are) zero-le tt (omega (arith, n .1, r .bytes)) in
     let c : tokenSum es + length (z .widths) ≤ 0 + 2 * p = g .tokens in
     record { lines = g .lines; tokens = omega (arith, c); entries = o .0; state = o .1 }

@@ -12,13 +12,15 @@ use Rattle.rules.specs.Lists.{bit, overwrite}
 use Rattle.rules.specs.Line.{initial, Halt, failed, overLimit}
 use Rattle.rules.specs.Reading.{linesOf, Reading, reads, halts, readFrom, byteSum}
 use Rattle.rules.specs.Failure.{failureRecord}
-use Rattle.rules.specs.Replies.{maxBytes, isTooLong, barge, Unread, Refusal, reading, unfit, Reply, numbered, accepted, refusedIf, firstOf, unless}
+use Rattle.rules.specs.Limits.{maxBytes, bargeLine}
+use Rattle.rules.specs.Replies.{isTooLong, Unread, Refusal, reading, unfit, Reply, numbered, accepted, refusedIf, firstOf, unless}
 use Rattle.rules.specs.Records.{lineNeed, tokenNeed, Records, recordsOf, recordTests, haltRefusal, recordedBy, FreshReading, recorded, unread, readLines}
 use Rattle.rules.specs.Page.{Page, Lent, Sizes, sizes, fits, pageText, Faithful, isFaithful}
 use Rattle.rules.specs.StopRule.{Edit, edited, rereadCount}
-use Rattle.rules.specs.Edit.{Outcome, early, late, done, gate, stored, through, outcome, replyOf, after, pageGate, Free, failure, deep, fewLines, fewTokens, stale, acceptance, Allowed, EditPost}
+use Rattle.rules.specs.Edit.{Outcome, early, late, done, gate, stored, through, outcome, replyOf, after, pageGate, Free, failure, limit, fewLines, fewTokens, stale, acceptance, Allowed, EditPost}
 use Rattle.rules.specs.Check.{checkReply}
 use Rattle.rules.specs.History.{Chain, call, textAfter, Holds}
+use Rattle.rules.proofs.LimitLaws.{HaltNumbered, halt-numbered}
 use Rattle.rules.proofs.BufferLaws.{length-overwrite, overwrite-take}
 use Rattle.rules.proofs.RecordLaws.{fresh-sizes}
 use Rattle.rules.proofs.PageLaws.{Fits, fits-true, true-fits, faithful-fits, fresh-lines, fresh-inverse, faithful-iff}
@@ -61,7 +63,7 @@ shut-post q ed o h e =
 
 pub clear-post : (q : Lent) (ed : Edit) (o : Outcome) → fits (q .page) ≡ true → gate (sizes q) (pageText (q .page)) ed ≡ none
     → Free q (edited (pageText (q .page)) ed) o
-    → (Faithful (q .page) → o ≡ stored (sizes q) (rereadCount (pageText (q .page)) ed) (readLines barge (edited (pageText (q .page)) ed)))
+    → (Faithful (q .page) → o ≡ stored (sizes q) (rereadCount bargeLine (pageText (q .page)) ed) (readLines bargeLine (edited (pageText (q .page)) ed)))
     → EditPost q ed (replyOf o) (after q (edited (pageText (q .page)) ed) o)
 unfolding outcome through
 clear-post q ed o h e free exact =
@@ -69,28 +71,28 @@ clear-post q ed o h e free exact =
 
 -- The contract can be met on every page.
 
-halt-free : (q : Lent) (u : List ℕ) (p l : ℕ) (h : Halt) → Free q u (late (reading (haltRefusal barge p l h)))
+halt-free : (q : Lent) (u : List ℕ) (p l : ℕ) (h : Halt) → HaltNumbered bargeLine h → Free q u (late (reading (haltRefusal p l h)))
 unfolding haltRefusal
-halt-free q u p l (failed f) = failure (failureRecord p l f)
-halt-free q u p l overLimit = deep l
+halt-free q u p l (failed f) k = failure (failureRecord p l f)
+halt-free q u p l (overLimit number) k = limit number l k
 
-stored-free : (q : Lent) (u : List ℕ) (count : ℕ) → length u ≤ maxBytes → Free q u (stored (sizes q) count (readLines barge u))
+stored-free : (q : Lent) (u : List ℕ) (count : ℕ) → length u ≤ maxBytes → Free q u (stored (sizes q) count (readLines bargeLine u))
 unfolding readLines recordedBy stored unless
-stored-free q u count small = go (readFrom (barge .levels) initial (linesOf u)) refl
+stored-free q u count small = go (readFrom bargeLine initial (linesOf u)) refl
   where
-    tests : (r : Records) → readLines barge u ≡ recorded r → (o : Option Refusal) → RoomCases (length (q .page .lines)) (length (q .page .tokens)) r o
+    tests : (r : Records) → readLines bargeLine u ≡ recorded r → (o : Option Refusal) → RoomCases (length (q .page .lines)) (length (q .page .tokens)) r o
         → Free q u (unless o late (done r count))
     tests r e o RoomCases.fewLines = fewLines _
     tests r e o RoomCases.fewTokens = fewTokens _
     tests r e o (enough x y) =
-        let fs = fresh-sizes u r e in
-        let sm = fresh-small u r small e in
+        let fs = fresh-sizes bargeLine u r e in
+        let sm = fresh-small bargeLine (omega arith) u r small e in
         acceptance r count (fs .0) (omega (arith, sm .m-le, sm .n-le)) (omega (arith, sm .k-le, sm .n-le)) (fs .1) (fs .2) x y
 
-    go : (x : Reading) → readFrom (barge .levels) initial (linesOf u) ≡ x → Free q u (stored (sizes q) count (recordedBy barge x))
-    go (halts es h) e = halt-free q u (byteSum es) (suc (length es)) h
+    go : (x : Reading) → readFrom bargeLine initial (linesOf u) ≡ x → Free q u (stored (sizes q) count (recordedBy x))
+    go (halts es h) e = halt-free q u (byteSum es) (suc (length es)) h (halt-numbered bargeLine initial (linesOf u) es h e)
     go (reads es z) e =
-        tests (recordsOf es z) (ap (recordedBy barge) e) (firstOf (recordTests (length (q .page .lines)) (length (q .page .tokens)) (recordsOf es z)))
+        tests (recordsOf es z) (ap recordedBy e) (firstOf (recordTests (length (q .page .lines)) (length (q .page .tokens)) (recordsOf es z)))
         (room-cases (length (q .page .lines)) (length (q .page .tokens)) (recordsOf es z))
 
 -- what comes to pass on a faithful page is allowed on every page that fits
@@ -101,9 +103,9 @@ outcome-allowed q ed = go (gate (sizes q) (pageText (q .page)) ed) (gate-passed 
     u : List ℕ
     u = edited (pageText (q .page)) ed
 
-    go : (g : Option Outcome) → Passed (sizes q) (pageText (q .page)) ed g → Allowed q u g (through g (stored (sizes q) (rereadCount (pageText (q .page)) ed) (readLines barge u)))
+    go : (g : Option Outcome) → Passed (sizes q) (pageText (q .page)) ed g → Allowed q u g (through g (stored (sizes q) (rereadCount bargeLine (pageText (q .page)) ed) (readLines bargeLine u)))
     go (some o) passed = refl
-    go none (clear proper text spare few form) = stored-free q u (rereadCount (pageText (q .page)) ed) (ltb-false _ _ few)
+    go none (clear proper text spare few form) = stored-free q u (rereadCount bargeLine (pageText (q .page)) ed) (ltb-false _ _ few)
 
 pub can-be-met : (q : Lent) (ed : Edit) → (reply : Reply) × (q′ : Lent) × EditPost q ed reply q′
 can-be-met q ed = go (fits (q .page)) refl
@@ -147,7 +149,7 @@ data Roomy (q : Lent) (u : List ℕ) : Outcome → Type 0 where
 
 free-roomy : (q : Lent) (u : List ℕ) (o : Outcome) → length u ≤ length (q .page .text) → length u ≤ length (q .spare) → Free q u o → Roomy q u o
 free-roomy q u o h k (failure f) = roomLate _ k
-free-roomy q u o h k (deep l) = roomLate _ k
+free-roomy q u o h k (limit number l x) = roomLate _ k
 free-roomy q u o h k (fewLines n) = roomLate _ k
 free-roomy q u o h k (fewTokens n) = roomLate _ k
 free-roomy q u o h k stale = roomLate _ k

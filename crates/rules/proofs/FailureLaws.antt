@@ -13,7 +13,8 @@ use Rattle.rules.specs.Utf8.{WellFormed, nil, scalar}
 use Rattle.rules.specs.Tables.{isCR, isHexDigit, Spelling, signs}
 use Rattle.rules.specs.Failure.{Failure, failure, badIndent}
 use Rattle.rules.specs.Cut.{Cut, blank, comment, ends, token, fails, numberCut, stringEnd, stringCut, closingCut, lowDigitCut, highDigitCut, escapeCut, contentCut, byteCut, wordCut, letterCut, signCut, cut}
-use Rattle.rules.specs.Line.{State, Token, tokenAt, movedBy, Cuts, cuts, stops, withToken, cutStep, cutsFrom, isSpace, isTab, indentSize, Levels, levels, unequal, tooDeep, levelsOf, failed, LineReply, lineReads, lineHalts, withCuts, withLevels, readLine}
+use Rattle.rules.specs.Limits.{LineLimits}
+use Rattle.rules.specs.Line.{State, Token, tokenAt, movedBy, Cuts, cuts, stops, withToken, cutStep, cutsFrom, isSpace, isTab, indentSize, Levels, levels, unequal, beyond, levelsOf, failed, LineReply, lineReads, lineHalts, withCuts, withLevels, readLine}
 use Rattle.rules.specs.Reading.{Line, isLF, notLF, onto, linesOf, content, Entry, entry, Reading, reads, halts, withEntry, lineThen, readFrom, byteSum}
 use Rattle.rules.proofs.ListLaws.{if-by, run-le}
 use Rattle.rules.proofs.CutLaws.{CutOk, cut-ok, cut-cases}
@@ -46,9 +47,9 @@ module _ (Q : (at : ℕ) → List ℕ → Failure → Type 0)
   stop-by at zero (b ∷ s) f h =
       stop-step at b s (cut (b ∷ s)) refl (λ skip. cutsFrom (suc at) skip s) (λ skip g e. stop-by (suc at) skip s g e) f h
 
-  failure-by : (limit : ℕ) (s : State) (l : List ℕ) (f : Failure) → Q 0 l (failure badIndent 0 0 (indentSize l)) → readLine limit s l ≡ lineHalts (failed f) → Q 0 l f
+  failure-by : (lim : LineLimits) (s : State) (l : List ℕ) (f : Failure) → Q 0 l (failure badIndent 0 0 (indentSize l)) → readLine lim s l ≡ lineHalts (failed f) → Q 0 l f
   unfolding readLine withLevels withCuts
-  failure-by limit s l f bad h = by-levels (levelsOf limit s l) h
+  failure-by lim s l f bad h = by-levels (levelsOf lim s l) h
     where
       by-cuts : (lead : List Token) (now : List ℕ) (c : Cuts) → cutsFrom 0 0 l ≡ c → withCuts s l lead now c ≡ lineHalts (failed f) → Q 0 l f
       by-cuts lead now (cuts ts) e q = let n : _≡_ {A = ℕ} 0 1 = cc in absurd (omega arith)
@@ -61,14 +62,14 @@ module _ (Q : (at : ℕ) → List ℕ → Failure → Type 0)
       by-levels unequal q =
           let same : failure badIndent 0 0 (indentSize l) ≡ f = cc in
           subst (Q 0 l) same bad
-      by-levels tooDeep q = let n : _≡_ {A = ℕ} 0 1 = cc in absurd (omega arith)
+      by-levels (beyond number) q = let n : _≡_ {A = ℕ} 0 1 = cc in absurd (omega arith)
 
 -- The range.
 
-pub failure-inside : (limit : ℕ) (s : State) (l : List ℕ) (f : Failure) → readLine limit s l ≡ lineHalts (failed f) → f .at + f .size ≤ length l
+pub failure-inside : (lim : LineLimits) (s : State) (l : List ℕ) (f : Failure) → readLine lim s l ≡ lineHalts (failed f) → f .at + f .size ≤ length l
 unfolding indentSize
-failure-inside limit s l f h =
-    let k : f .at + f .size ≤ 0 + length l = failure-by (λ at s f. f .at + f .size ≤ at + length s) (λ at b s f e. inside at b s f e) (λ at b s f k. omega (arith, k)) limit s l f
+failure-inside lim s l f h =
+    let k : f .at + f .size ≤ 0 + length l = failure-by (λ at s f. f .at + f .size ≤ at + length s) (λ at b s f e. inside at b s f e) (λ at b s f k. omega (arith, k)) lim s l f
     (omega (arith, run-le (λ b. isSpace b || isTab b) l)) h in
     omega (arith, k)
   where
@@ -167,9 +168,9 @@ cut-known b s h =
       sign = λ _ _. sign-known signs (b ∷ s);
     }
 
-pub failure-known : (limit : ℕ) (s : State) (l : List ℕ) (f : Failure) → Bytes l → readLine limit s l ≡ lineHalts (failed f) → Known f
-failure-known limit s l f v h =
-    failure-by (λ at s f. Bytes s → Known f) (λ at b s f e k. moved at f (subst CutKnown e (cut-known b s k))) (λ at b s f q k. q (k .1)) limit s l f
+pub failure-known : (lim : LineLimits) (s : State) (l : List ℕ) (f : Failure) → Bytes l → readLine lim s l ≡ lineHalts (failed f) → Known f
+failure-known lim s l f v h =
+    failure-by (λ at s f. Bytes s → Known f) (λ at b s f e k. moved at f (subst CutKnown e (cut-known b s k))) (λ at b s f q k. q (k .1)) lim s l f
     (λ _. known _ _ _ _ (omega arith) (omega arith) (omega arith)) h v
   where
     moved : (at : ℕ) (f : Failure) → Known f → Known (movedBy at f)
@@ -208,13 +209,13 @@ pub record Placed (size start : ℕ) (f : Failure) : Type 0 where
   pub inside : start + (f .at + f .size) ≤ size
   pub known-failure : Known f
 
-placed-from : (limit : ℕ) (s : State) (ls : List Line) (es : List Entry) (f : Failure) → LineBytes ls → readFrom limit s ls ≡ halts es (failed f) → Placed (total ls) (byteSum es) f
+placed-from : (lim : LineLimits) (s : State) (ls : List Line) (es : List Entry) (f : Failure) → LineBytes ls → readFrom lim s ls ≡ halts es (failed f) → Placed (total ls) (byteSum es) f
 unfolding readFrom lineThen withEntry byteSum content
-placed-from limit s [] es f v h = let n : _≡_ {A = ℕ} 0 1 = cc in absurd (omega arith)
-placed-from limit s (l ∷ ls) es f v h = by-line (λ z fs e. placed-from limit z ls fs f (v .1) e) (readLine limit s (content l)) refl h
+placed-from lim s [] es f v h = let n : _≡_ {A = ℕ} 0 1 = cc in absurd (omega arith)
+placed-from lim s (l ∷ ls) es f v h = by-line (λ z fs e. placed-from lim z ls fs f (v .1) e) (readLine lim s (content l)) refl h
   where
-    by-rest : ((z : State) (fs : List Entry) → readFrom limit z ls ≡ halts fs (failed f) → Placed (total ls) (byteSum fs) f)
-        → (ts : List Token) (z : State) (x : Reading) → readFrom limit z ls ≡ x → withEntry (entry s (length l) ts) x ≡ halts es (failed f) → Placed (total (l ∷ ls)) (byteSum es) f
+    by-rest : ((z : State) (fs : List Entry) → readFrom lim z ls ≡ halts fs (failed f) → Placed (total ls) (byteSum fs) f)
+        → (ts : List Token) (z : State) (x : Reading) → readFrom lim z ls ≡ x → withEntry (entry s (length l) ts) x ≡ halts es (failed f) → Placed (total (l ∷ ls)) (byteSum es) f
     by-rest ih ts z (reads fs y) e q = let n : _≡_ {A = ℕ} 0 1 = cc in absurd (omega arith)
     by-rest ih ts z (halts fs y) e q =
         let a : entry s (length l) ts ∷ fs ≡ es = cc in
@@ -222,16 +223,16 @@ placed-from limit s (l ∷ ls) es f v h = by-line (λ z fs e. placed-from limit 
         let r : Placed (total ls) (byteSum fs) f = ih z fs (e ∙ ap (halts fs) b) in
         record { inside = omega (arith, r .inside, ap byteSum a); known-failure = r .known-failure }
 
-    by-line : ((z : State) (fs : List Entry) → readFrom limit z ls ≡ halts fs (failed f) → Placed (total ls) (byteSum fs) f)
-        → (x : LineReply) → readLine limit s (content l) ≡ x → lineThen s l x (λ z. readFrom limit z ls) ≡ halts es (failed f) → Placed (total (l ∷ ls)) (byteSum es) f
-    by-line ih (lineReads ts z) e q = by-rest ih ts z (readFrom limit z ls) refl q
+    by-line : ((z : State) (fs : List Entry) → readFrom lim z ls ≡ halts fs (failed f) → Placed (total ls) (byteSum fs) f)
+        → (x : LineReply) → readLine lim s (content l) ≡ x → lineThen s l x (λ z. readFrom lim z ls) ≡ halts es (failed f) → Placed (total (l ∷ ls)) (byteSum es) f
+    by-line ih (lineReads ts z) e q = by-rest ih ts z (readFrom lim z ls) refl q
     by-line ih (lineHalts x) e q =
         let a : [] ≡ es = cc in
         let b : x ≡ failed f = cc in
         record {
-          inside = omega (arith, ap byteSum a, failure-inside limit s (content l) f (e ∙ ap lineHalts b), length-take (run notLF l) l);
-          known-failure = failure-known limit s (content l) f (bytes-take (run notLF l) l (v .0)) (e ∙ ap lineHalts b);
+          inside = omega (arith, ap byteSum a, failure-inside lim s (content l) f (e ∙ ap lineHalts b), length-take (run notLF l) l);
+          known-failure = failure-known lim s (content l) f (bytes-take (run notLF l) l (v .0)) (e ∙ ap lineHalts b);
         }
 
-pub failure-placed : (limit : ℕ) (s : State) (t : List ℕ) (es : List Entry) (f : Failure) → WellFormed t → readFrom limit s (linesOf t) ≡ halts es (failed f) → Placed (length t) (byteSum es) f
-failure-placed limit s t es f w h = subst (λ (n : ℕ). Placed n (byteSum es) f) (total-lines t) (placed-from limit s (linesOf t) es f (lines-bytes t (well-formed-bytes t w)) h)
+pub failure-placed : (lim : LineLimits) (s : State) (t : List ℕ) (es : List Entry) (f : Failure) → WellFormed t → readFrom lim s (linesOf t) ≡ halts es (failed f) → Placed (length t) (byteSum es) f
+failure-placed lim s t es f w h = subst (λ (n : ℕ). Placed n (byteSum es) f) (total-lines t) (placed-from lim s (linesOf t) es f (lines-bytes t (well-formed-bytes t w)) h)

@@ -10,7 +10,8 @@ use lib.Dec.{ltb}
 use lib.ListN.{length}
 use borrow.Author.Tests.{ltb-false, lt-ltb, le-ltb}
 use Rattle.rules.specs.Lists.{if_then_else_}
-use Rattle.rules.specs.Replies.{maxBytes, barge, Unread, Refusal, reading, short, outside, numberedUnread, numbered, isRefused, textBuffer, spareBuffer, linesBuffer, tokensBuffer, refusedIf, firstOf, unless, isTooLong, tooLongBy, isMalformed, malformedBy}
+use Rattle.rules.specs.Limits.{maxBytes, barge, bargeLine}
+use Rattle.rules.specs.Replies.{Unread, Refusal, reading, short, outside, numberedUnread, numbered, isRefused, textBuffer, spareBuffer, linesBuffer, tokensBuffer, refusedIf, firstOf, unless, isTooLong, tooLongBy, isMalformed, malformedBy}
 use Rattle.rules.specs.Records.{lineNeed, tokenNeed, Records, recordTests, FreshReading, recorded, unread, readLines, freshReading}
 use Rattle.rules.specs.Page.{Sizes}
 use Rattle.rules.specs.StopRule.{Edit, edited, rereadCount}
@@ -145,15 +146,15 @@ pub data Sound (z : Sizes) (t : List ℕ) (ed : Edit) : Outcome → Type 0 where
   isLate : (r : Refusal) → isRefused (numbered r) ≡ true → length (edited t ed) ≤ z .text → length (edited t ed) ≤ z .spare → Sound z t ed (late r)
   isDone : (r : Records) → Proper t ed → length (edited t ed) ≤ z .text → length (edited t ed) ≤ z .spare
       → freshReading (edited t ed) ≡ recorded r → lineNeed (r .head .m) ≤ z .lines → tokenNeed (r .head .k) ≤ z .tokens
-      → Sound z t ed (done r (rereadCount t ed))
+      → Sound z t ed (done r (rereadCount bargeLine t ed))
 
 stored-sound : (z : Sizes) (t : List ℕ) (ed : Edit) → Proper t ed → length (edited t ed) ≤ z .text → length (edited t ed) ≤ z .spare
-    → (f : FreshReading) → freshReading (edited t ed) ≡ f → Sound z t ed (stored z (rereadCount t ed) f)
+    → (f : FreshReading) → freshReading (edited t ed) ≡ f → Sound z t ed (stored z (rereadCount bargeLine t ed) f)
 unfolding stored unless numbered isRefused
 stored-sound z t ed p h k (unread u) e = isLate (reading u) (unread-refused (edited t ed) u e) h k
 stored-sound z t ed p h k (recorded r) e = go (firstOf (recordTests (z .lines) (z .tokens) r)) (room-cases (z .lines) (z .tokens) r)
   where
-    go : (o : Option Refusal) → RoomCases (z .lines) (z .tokens) r o → Sound z t ed (unless o late (done r (rereadCount t ed)))
+    go : (o : Option Refusal) → RoomCases (z .lines) (z .tokens) r o → Sound z t ed (unless o late (done r (rereadCount bargeLine t ed)))
     go o fewLines = isLate _ refl h k
     go o fewTokens = isLate _ refl h k
     go o (enough x y) = isDone r p h k e x y
@@ -162,26 +163,26 @@ pub outcome-sound : (z : Sizes) (t : List ℕ) (ed : Edit) → Sound z t ed (out
 unfolding outcome through
 outcome-sound z t ed = go (gate z t ed) (gate-passed z t ed)
   where
-    go : (g : Option Outcome) → Passed z t ed g → Sound z t ed (through g (stored z (rereadCount t ed) (readLines barge (edited t ed))))
+    go : (g : Option Outcome) → Passed z t ed g → Sound z t ed (through g (stored z (rereadCount bargeLine t ed) (readLines bargeLine (edited t ed))))
     go g (stopsEarly r x) = isEarly r x
     go g (stopsLate r x h k) = isLate r x h k
-    go g (clear p h k x y) = stored-sound z t ed p h k (readLines barge (edited t ed)) (fresh-lines (edited t ed) x y)
+    go g (clear p h k x y) = stored-sound z t ed p h k (readLines bargeLine (edited t ed)) (fresh-lines (edited t ed) x y)
 
 -- With a proper range, and text and spare long enough, the fresh reading of the edited text decides.
 
 module _ (z : Sizes) (t : List ℕ) (ed : Edit) (p : Proper t ed) (h : length (edited t ed) ≤ z .text) (k : length (edited t ed) ≤ z .spare) where
   outcome-clear : isTooLong barge (edited t ed) ≡ false → isMalformed (edited t ed) ≡ false
-      → outcome z t ed ≡ stored z (rereadCount t ed) (readLines barge (edited t ed))
+      → outcome z t ed ≡ stored z (rereadCount bargeLine t ed) (readLines bargeLine (edited t ed))
   unfolding outcome through
   outcome-clear x y = rw (gate-clear z t ed p x h k y)
 
   -- where it reads and its records have room, the edit is accepted with the stop rule's count
   pub outcome-accepts : (r : Records) → freshReading (edited t ed) ≡ recorded r → lineNeed (r .head .m) ≤ z .lines → tokenNeed (r .head .k) ≤ z .tokens
-      → outcome z t ed ≡ done r (rereadCount t ed)
+      → outcome z t ed ≡ done r (rereadCount bargeLine t ed)
   unfolding stored recordTests firstOf unless refusedIf
   outcome-accepts r e hl ht =
       let i = fresh-inverse (edited t ed) r e in
-      outcome-clear (i .0) (i .1) ∙ ap (stored z (rereadCount t ed)) (i .2)
+      outcome-clear (i .0) (i .1) ∙ ap (stored z (rereadCount bargeLine t ed)) (i .2)
       ∙ rw (le-ltb (z .lines) (lineNeed (r .head .m)) hl, le-ltb (z .tokens) (tokenNeed (r .head .k)) ht)
 
   -- where it is refused, so is the edit, alike

@@ -11,7 +11,8 @@ use lib.Seq.{take-at}
 use borrow.Author.Tests.{le-ltb}
 use Rattle.rules.specs.Lists.{if_then_else_, overwrite}
 use Rattle.rules.specs.Utf8.{utf8Rules}
-use Rattle.rules.specs.Replies.{barge, Unread, Refusal, reading, Reply, numbered, accepted, isRefused, refusedIf, unless, isTooLong, isMalformed}
+use Rattle.rules.specs.Limits.{bargeLine}
+use Rattle.rules.specs.Replies.{Unread, Refusal, reading, Reply, numbered, accepted, isRefused, refusedIf, unless, isTooLong, isMalformed}
 use Rattle.rules.specs.Records.{lineSize, lineNeed, tokenNeed, header, headerWords, Records, recorded, unread, freshReading, readLines}
 use Rattle.rules.specs.Page.{Page, Lent, Sizes, sizes, pageText, pageRecords, Faithful, headerAfter, freshReply, freshLines, freshPage, FreshPost}
 use Rattle.rules.specs.StopRule.{Edit, edited, rereadCount}
@@ -50,7 +51,7 @@ pub written-holds : (t : List ℕ) (r : Records) (text spare lines tokens : List
     → Holds (record { text = length text; spare = length spare; lines = length lines; tokens = length tokens }) t
     (record { page = record { head = r .head; text = text; lines = overwrite (r .lines) lines; tokens = overwrite (r .tokens) tokens }; spare = spare })
 written-holds t r text spare lines tokens g b hl ht =
-    let fs = fresh-sizes t r (fresh-inverse t r g .2) in
+    let fs = fresh-sizes bargeLine t r (fresh-inverse t r g .2) in
     let el : length (overwrite (r .lines) lines) ≡ length lines = length-overwrite (r .lines) lines (omega (arith, fs .1)) in
     let et : length (overwrite (r .tokens) tokens) ≡ length tokens = length-overwrite (r .tokens) tokens (omega (arith, fs .2)) in
     record {
@@ -147,7 +148,7 @@ list-of-edits {z} {t} {q} h es rs last (call {q = mid} {c = ed} {cs = rest} {r =
 
 -- The fresh page.
 
-empty-fresh : freshReading [] ≡ readLines barge []
+empty-fresh : freshReading [] ≡ readLines bargeLine []
 unfolding isTooLong isMalformed utf8Rules
 empty-fresh = fresh-lines [] refl refl
 

@@ -7,6 +7,7 @@ pub mod EncodeLaws
 pub mod CutLaws
 pub mod LineLaws
 pub mod ReadingLaws
+pub mod LimitLaws
 pub mod RecordLaws
 pub mod StateLaws
 pub mod StopLaws

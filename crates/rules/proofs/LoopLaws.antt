@@ -13,7 +13,7 @@ use borrow.Author.Tests.{lt-ltb}
 use Rattle.rules.specs.Lists.{if_then_else_, any, run}
 use Rattle.rules.specs.Line.{State, initial, Token, Halt, LineReply, lineReads, lineHalts, readLine}
 use Rattle.rules.specs.Reading.{Line, linesOf, content, Entry, entry, Reading, reads, halts, readFrom, linesRead, byteSum, tokenSum, stateAt, lineAt, sizeAt}
-use Rattle.rules.specs.Replies.{maxLevels}
+use Rattle.rules.specs.Limits.{LineLimits}
 use Rattle.rules.specs.Records.{lineSize, tokenSize, lineRecords, tokenRecords, endEntry, withEnd, Records, recordsOf}
 use Rattle.rules.specs.StopRule.{Edit, edited, keptFrom, Mark, marksFrom, sameState, sameMark, oldMark, isStop, rereadCount, fromLine, fromByte, fromState}
 use Rattle.rules.proofs.LineLaws.{total, total-lines, drop-lines, firstSize-le, lines-at, content-first}
@@ -24,23 +24,23 @@ use Rattle.rules.proofs.MendLaws.{keptLines, linesTo, linesTo-cons, fre
 use Rattle.rules.proofs.MovedLaws.{moveLines, moveTokens, mended-lines, mended-tokens}
 
 -- Reading t from the state s has come to byte p with the lines es and the state z.
-pub record ReadTo (limit : ℕ) (s : State) (t : List ℕ) (p : ℕ) (es : List Entry) (z : State) : Type 0 where
+pub record ReadTo (lim : LineLimits) (s : State) (t : List ℕ) (p : ℕ) (es : List Entry) (z : State) : Type 0 where
   pub lines : List Line
   pub split : linesOf t ≡ lines ++ linesOf (drop p t)
-  pub reads-are : readFrom limit s lines ≡ reads es z
+  pub reads-are : readFrom lim s lines ≡ reads es z
   pub bytes : byteSum es ≡ p
 
-module _ (limit : ℕ) (s : State) (t : List ℕ) where
-  pub read-start : ReadTo limit s t 0 [] s
+module _ (lim : LineLimits) (s : State) (t : List ℕ) where
+  pub read-start : ReadTo lim s t 0 [] s
   unfolding readFrom byteSum
   read-start = record { lines = []; split = refl; reads-are = refl; bytes = refl }
 
-  module _ (p : ℕ) (es : List Entry) (z : State) (r : ReadTo limit s t p es z) where
-    pub read-end : length t ≤ p → readFrom limit s (linesOf t) ≡ reads es z
+  module _ (p : ℕ) (es : List Entry) (z : State) (r : ReadTo lim s t p es z) where
+    pub read-end : length t ≤ p → readFrom lim s (linesOf t) ≡ reads es z
     unfolding linesOf
     read-end h =
         let e : linesOf t ≡ r .lines = r .split ∙ ap (λ (x : List ℕ). r .lines ++ linesOf x) (drop-of-length-le t h) ∙ append-nil (r .lines) in
-        ap (readFrom limit s) e ∙ r .reads-are
+        ap (readFrom lim s) e ∙ r .reads-are
 
     split-more : p < length t → linesOf t ≡ r .lines ++ (take (sizeAt t p) (drop p t) ∷ linesOf (drop (p + sizeAt t p) t))
     split-more h = r .split ∙ ap (λ (x : List Line). r .lines ++ x) (lines-at t p h)
@@ -48,40 +48,40 @@ module _ (limit : ℕ) (s : State) (t : List ℕ) where
     size-of : length (take (sizeAt t p) (drop p t)) ≡ sizeAt t p
     size-of = length-take-le (sizeAt t p) (drop p t) (firstSize-le (drop p t))
 
-    pub read-line : (ts : List Token) (z′ : State) → p < length t → readLine limit z (lineAt t p) ≡ lineReads ts z′
-        → ReadTo limit s t (p + sizeAt t p) (es ++ (entry z (sizeAt t p) ts ∷ [])) z′
+    pub read-line : (ts : List Token) (z′ : State) → p < length t → readLine lim z (lineAt t p) ≡ lineReads ts z′
+        → ReadTo lim s t (p + sizeAt t p) (es ++ (entry z (sizeAt t p) ts ∷ [])) z′
     unfolding byteSum
     read-line ts z′ h e =
         let l : Line = take (sizeAt t p) (drop p t) in
-        let e2 : readLine limit z (content l) ≡ lineReads ts z′ = ap (readLine limit z) (content-first (drop p t)) ∙ e in
+        let e2 : readLine lim z (content l) ≡ lineReads ts z′ = ap (readLine lim z) (content-first (drop p t)) ∙ e in
         record {
           lines = r .lines ++ (l ∷ []);
           split = split-more h ∙ sym (append-assoc (r .lines) (l ∷ []) (linesOf (drop (p + sizeAt t p) t)));
-          reads-are = read-more limit s (r .lines) es z l ts z′ (r .reads-are) e2
+          reads-are = read-more lim s (r .lines) es z l ts z′ (r .reads-are) e2
               ∙ ap (λ (n : ℕ). reads (es ++ (entry z n ts ∷ [])) z′) size-of;
           bytes = byteSum-append es (entry z (sizeAt t p) ts ∷ []) ∙ omega (arith, r .bytes);
         }
 
-    pub read-stuck : (h : Halt) → p < length t → readLine limit z (lineAt t p) ≡ lineHalts h → readFrom limit s (linesOf t) ≡ halts es h
+    pub read-stuck : (h : Halt) → p < length t → readLine lim z (lineAt t p) ≡ lineHalts h → readFrom lim s (linesOf t) ≡ halts es h
     read-stuck x h e =
         let l : Line = take (sizeAt t p) (drop p t) in
-        let e2 : readLine limit z (content l) ≡ lineHalts x = ap (readLine limit z) (content-first (drop p t)) ∙ e in
-        ap (readFrom limit s) (split-more h) ∙ read-halts limit s (r .lines) es z l (linesOf (drop (p + sizeAt t p) t)) x (r .reads-are) e2
+        let e2 : readLine lim z (content l) ≡ lineHalts x = ap (readLine lim z) (content-first (drop p t)) ∙ e in
+        ap (readFrom lim s) (split-more h) ∙ read-halts lim s (r .lines) es z l (linesOf (drop (p + sizeAt t p) t)) x (r .reads-are) e2
 
     -- p is where the next line starts
     pub read-position : total (take (length es) (linesOf t)) ≡ p
     read-position =
-        let n = read-sizes limit s (r .lines) es z (r .reads-are) in
+        let n = read-sizes lim s (r .lines) es z (r .reads-are) in
         ap (λ (x : List Line). total (take (length es) x)) (r .split) ∙ ap total (take-at (r .lines) (linesOf (drop p t)) (length es) (sym (n .0))) ∙ sym (n .1) ∙ r .bytes
 
     -- what is left reads from z
-    pub read-rest : readFrom limit s (linesOf t) ≡ withEntries es (readFrom limit z (linesOf (drop p t)))
+    pub read-rest : readFrom lim s (linesOf t) ≡ withEntries es (readFrom lim z (linesOf (drop p t)))
     read-rest =
-        ap (readFrom limit s) (r .split) ∙ readFrom-append limit s (r .lines) (linesOf (drop p t))
-        ∙ ap (λ (x : Reading). andThen x (λ y. readFrom limit y (linesOf (drop p t)))) (r .reads-are)
+        ap (readFrom lim s) (r .split) ∙ readFrom-append lim s (r .lines) (linesOf (drop p t))
+        ∙ ap (λ (x : Reading). andThen x (λ y. readFrom lim y (linesOf (drop p t)))) (r .reads-are)
 
 -- Re-reading: the old text t with its reading, and the edited text from the first line to be read again on.
-module _ (t : List ℕ) (old : List Entry) (end : State) (h : readFrom maxLevels initial (linesOf t) ≡ reads old end) (ed : Edit) (ha : ed .a ≤ length t) where
+module _ (lim : LineLimits) (t : List ℕ) (old : List Entry) (end : State) (h : readFrom lim initial (linesOf t) ≡ reads old end) (ed : Edit) (ha : ed .a ≤ length t) where
   -- where it begins
   abbrev line : ℕ
   line = fromLine t ed
@@ -94,46 +94,46 @@ module _ (t : List ℕ) (old : List Entry) (end : State) (h : readFrom maxLevels
 
   -- re-reading has come q bytes on, past lines es at none of which it stops, to the state z
   pub record RereadTo (q : ℕ) (es : List Entry) (z : State) : Type 0 where
-    pub to : ReadTo maxLevels state (drop byte (edited t ed)) q es z
+    pub to : ReadTo lim state (drop byte (edited t ed)) q es z
     pub counted : (ys : List Entry) → linesTo (marksFrom 0 old) ed byte (es ++ ys) ≡ length es + linesTo (marksFrom 0 old) ed (byte + q) ys
 
   pub reread-start : RereadTo 0 [] state
   reread-start =
       record {
-        to = read-start maxLevels state (drop byte (edited t ed));
+        to = read-start lim state (drop byte (edited t ed));
         counted = λ ys. ap (λ (n : ℕ). linesTo (marksFrom 0 old) ed n ys) (sym (add-zero byte)) ∙ omega arith;
       }
 
   -- the whole reading, at a position of the re-reading
   module _ (q : ℕ) (es : List Entry) (z : State) (r : RereadTo q es z) where
     abbrev rest : Reading
-    rest = readFrom maxLevels z (linesOf (drop q (drop byte (edited t ed))))
+    rest = readFrom lim z (linesOf (drop q (drop byte (edited t ed))))
 
-    whole-is : readFrom maxLevels initial (linesOf (edited t ed)) ≡ withEntries (take line old) (withEntries es rest)
+    whole-is : readFrom lim initial (linesOf (edited t ed)) ≡ withEntries (take line old) (withEntries es rest)
     whole-is =
-        fresh-parts maxLevels t old end h ed ha
-        ∙ ap (withEntries (take line old)) (read-rest maxLevels state (drop byte (edited t ed)) q es z (r .to))
+        fresh-parts lim t old end h ed ha
+        ∙ ap (withEntries (take line old)) (read-rest lim state (drop byte (edited t ed)) q es z (r .to))
 
-    count-is : rereadCount t ed ≡ length es + linesTo (marksFrom 0 old) ed (byte + q) (linesRead rest)
+    count-is : rereadCount lim t ed ≡ length es + linesTo (marksFrom 0 old) ed (byte + q) (linesRead rest)
     count-is =
-        count-from t old end h ed ha
-        ∙ ap (λ (x : Reading). linesTo (marksFrom 0 old) ed byte (linesRead x)) (read-rest maxLevels state (drop byte (edited t ed)) q es z (r .to))
+        count-from lim t old end h ed ha
+        ∙ ap (λ (x : Reading). linesTo (marksFrom 0 old) ed byte (linesRead x)) (read-rest lim state (drop byte (edited t ed)) q es z (r .to))
         ∙ ap (linesTo (marksFrom 0 old) ed byte) (linesRead-withEntries es rest) ∙ r .counted (linesRead rest)
 
     -- it is a reading of the edited text from its start
-    pub reread-whole : ReadTo maxLevels initial (edited t ed) (byte + q) (take line old ++ es) z
+    pub reread-whole : ReadTo lim initial (edited t ed) (byte + q) (take line old ++ es) z
     reread-whole =
         let u : List ℕ = edited t ed in
         let i : ℕ = line in
         let tail : drop i (linesOf u) ≡ r .to .lines ++ linesOf (drop (byte + q) u) =
-        drop-lines i u ∙ ap (λ (n : ℕ). linesOf (drop n u)) (front-size maxLevels t old end h ed ha)
+        drop-lines i u ∙ ap (λ (n : ℕ). linesOf (drop n u)) (front-size lim t old end h ed ha)
         ∙ r .to .split ∙ ap (λ (x : List ℕ). r .to .lines ++ linesOf x) (drop-drop q byte u) in
         record {
           lines = take i (linesOf u) ++ r .to .lines;
           split = sym (take-append-drop i (linesOf u)) ∙ ap (λ (x : List Line). take i (linesOf u) ++ x) tail
               ∙ sym (append-assoc (take i (linesOf u)) (r .to .lines) (linesOf (drop (byte + q) u)));
-          reads-are = readFrom-append maxLevels initial (take i (linesOf u)) (r .to .lines)
-              ∙ ap (λ (x : Reading). andThen x (λ y. readFrom maxLevels y (r .to .lines))) (front-reads maxLevels t old end h ed ha)
+          reads-are = readFrom-append lim initial (take i (linesOf u)) (r .to .lines)
+              ∙ ap (λ (x : Reading). andThen x (λ y. readFrom lim y (r .to .lines))) (front-reads lim t old end h ed ha)
               ∙ ap (withEntries (take i old)) (r .to .reads-are) ∙ withEntries-reads (take i old) es z;
           bytes = byteSum-append (take i old) es ∙ ap (λ (n : ℕ). byte + n) (r .to .bytes);
         }
@@ -144,11 +144,11 @@ module _ (t : List ℕ) (old : List Entry) (end : State) (h : readFrom maxLevels
         × (isStop (marksFrom 0 old) ed (mark (byte + q) z) ≡ sameState z (stateAt old end i))
     unfolding isStop byteSum
     reread-test hab hb hf hp =
-        let w : ReadTo maxLevels initial (edited t ed) (byte + q) (take line old ++ es) z = reread-whole in
+        let w : ReadTo lim initial (edited t ed) (byte + q) (take line old ++ es) z = reread-whole in
         let s = old-start t ed hab hb (length (take line old ++ es)) (byte + q)
-        (read-position maxLevels initial (edited t ed) (byte + q) (take line old ++ es) z w) hf hp in
-        let start : byteSum (take (s .0) old) ≡ ed .b + (byte + q - keptFrom ed) = sym (parts maxLevels (s .0) initial (linesOf t) old end h .sizes) ∙ s .1 in
-        let n : byteSum old ≡ length t = read-sizes maxLevels initial (linesOf t) old end h .1 ∙ total-lines t in
+        (read-position lim initial (edited t ed) (byte + q) (take line old ++ es) z w) hf hp in
+        let start : byteSum (take (s .0) old) ≡ ed .b + (byte + q - keptFrom ed) = sym (parts lim (s .0) initial (linesOf t) old end h .sizes) ∙ s .1 in
+        let n : byteSum old ≡ length t = read-sizes lim initial (linesOf t) old end h .1 ∙ total-lines t in
         let lt : s .0 < length old = inside old (s .0) (omega (arith, length-edited t ed ha)) in
         let old-start-is : 0 + byteSum (take (s .0) old) ≡ ed .b + (byte + q - keptFrom ed) = zero-add (byteSum (take (s .0) old)) ∙ start in (
           s .0,
@@ -156,7 +156,7 @@ module _ (t : List ℕ) (old : List Entry) (end : State) (h : readFrom maxLevels
           start,
           rw (lt-ltb (keptFrom ed) (byte + q) hf)
               (ap (λ (x : ℕ). any (sameMark (mark x z)) (marksFrom 0 old)) (sym old-start-is)
-              ∙ mark-at 0 old end (s .0) z (read-positive maxLevels (linesOf t) t initial old end refl h) lt),
+              ∙ mark-at 0 old end (s .0) z (read-positive lim (linesOf t) t initial old end refl h) lt),
         )
       where
         inside : (es : List Entry) (i : ℕ) → byteSum (take i es) < byteSum es → i < length es
@@ -166,13 +166,13 @@ module _ (t : List ℕ) (old : List Entry) (end : State) (h : readFrom maxLevels
 
     -- the next line is read
     pub reread-line : (ts : List Token) (z′ : State) → q < length (drop byte (edited t ed)) → isStop (marksFrom 0 old) ed (mark (byte + q) z) ≡ false
-        → readLine maxLevels z (lineAt (drop byte (edited t ed)) q) ≡ lineReads ts z′
+        → readLine lim z (lineAt (drop byte (edited t ed)) q) ≡ lineReads ts z′
         → RereadTo (q + sizeAt (drop byte (edited t ed)) q) (es ++ (entry z (sizeAt (drop byte (edited t ed)) q) ts ∷ [])) z′
     reread-line ts z′ hq no-stop e =
         let u : List ℕ = drop byte (edited t ed) in
         let n : ℕ = sizeAt u q in
         record {
-          to = read-line maxLevels state u q es z (r .to) ts z′ hq e;
+          to = read-line lim state u q es z (r .to) ts z′ hq e;
           counted = λ ys.
               ap (linesTo (marksFrom 0 old) ed byte) (append-assoc es (entry z n ts ∷ []) ys) ∙ r .counted (entry z n ts ∷ ys)
               ∙ ap (λ (x : ℕ). length es + x) (linesTo-cons (marksFrom 0 old) ed (byte + q) (entry z n ts) ys)
@@ -183,25 +183,25 @@ module _ (t : List ℕ) (old : List Entry) (end : State) (h : readFrom maxLevels
 
     -- it stops here: from here on the old lines
     pub reread-stop : isStop (marksFrom 0 old) ed (mark (byte + q) z) ≡ true
-        → (readFrom maxLevels initial (linesOf (edited t ed)) ≡ reads (take line old ++ (es ++ keptLines old ed (byte + q))) end) × (rereadCount t ed ≡ length es)
+        → (readFrom lim initial (linesOf (edited t ed)) ≡ reads (take line old ++ (es ++ keptLines old ed (byte + q))) end) × (rereadCount lim t ed ≡ length es)
     reread-stop x =
         let d : drop q (drop byte (edited t ed)) ≡ drop (byte + q) (edited t ed) = drop-drop q byte (edited t ed) in
         let k : rest ≡ reads (keptLines old ed (byte + q)) end =
-        ap (λ (y : List ℕ). readFrom maxLevels z (linesOf y)) d ∙ stop-run maxLevels t old end h ed ha (byte + q) z x in (
+        ap (λ (y : List ℕ). readFrom lim z (linesOf y)) d ∙ stop-run lim t old end h ed ha (byte + q) z x in (
           whole-is ∙ ap (λ (y : Reading). withEntries (take line old) (withEntries es y)) k
               ∙ ap (withEntries (take line old)) (withEntries-reads es (keptLines old ed (byte + q)) end)
               ∙ withEntries-reads (take line old) (es ++ keptLines old ed (byte + q)) end,
           count-is
-              ∙ ap (λ (n : ℕ). length es + n) (stop-count maxLevels old end ed (byte + q) z (linesOf (drop q (drop byte (edited t ed)))) x)
+              ∙ ap (λ (n : ℕ). length es + n) (stop-count lim old end ed (byte + q) z (linesOf (drop q (drop byte (edited t ed)))) x)
               ∙ add-zero (length es),
         )
 
     -- it comes to the end
     pub reread-end : length (drop byte (edited t ed)) ≤ q
-        → (readFrom maxLevels initial (linesOf (edited t ed)) ≡ reads (take line old ++ es) z) × (rereadCount t ed ≡ length es)
+        → (readFrom lim initial (linesOf (edited t ed)) ≡ reads (take line old ++ es) z) × (rereadCount lim t ed ≡ length es)
     unfolding readFrom linesOf run marksFrom linesRead
     reread-end x =
-        let k : rest ≡ reads [] z = ap (λ (y : List ℕ). readFrom maxLevels z (linesOf y)) (drop-of-length-le (drop byte (edited t ed)) x) in (
+        let k : rest ≡ reads [] z = ap (λ (y : List ℕ). readFrom lim z (linesOf y)) (drop-of-length-le (drop byte (edited t ed)) x) in (
           whole-is ∙ ap (λ (y : Reading). withEntries (take line old) (withEntries es y)) k
               ∙ ap (withEntries (take line old)) (withEntries-reads es [] z ∙ ap (λ (y : List Entry). reads y z) (append-nil es))
               ∙ withEntries-reads (take line old) es z,
@@ -209,11 +209,11 @@ module _ (t : List ℕ) (old : List Entry) (end : State) (h : readFrom maxLevels
         )
 
     -- the next line does not read
-    pub reread-stuck : (x : Halt) → q < length (drop byte (edited t ed)) → readLine maxLevels z (lineAt (drop byte (edited t ed)) q) ≡ lineHalts x
-        → readFrom maxLevels initial (linesOf (edited t ed)) ≡ halts (take line old ++ es) x
+    pub reread-stuck : (x : Halt) → q < length (drop byte (edited t ed)) → readLine lim z (lineAt (drop byte (edited t ed)) q) ≡ lineHalts x
+        → readFrom lim initial (linesOf (edited t ed)) ≡ halts (take line old ++ es) x
     reread-stuck x hq e =
-        fresh-parts maxLevels t old end h ed ha
-        ∙ ap (withEntries (take line old)) (read-stuck maxLevels state (drop byte (edited t ed)) q es z (r .to) x hq e)
+        fresh-parts lim t old end h ed ha
+        ∙ ap (withEntries (take line old)) (read-stuck lim state (drop byte (edited t ed)) q es z (r .to) x hq e)
         ∙ withEntries-halts (take line old) es x
 
 -- The records at a stop: those of the old lines before line i, those of the new lines, and those of the old lines from j on, moved.

@@ -13,7 +13,7 @@ use borrow.Author.Tests.{ltb-true, le-ltb}
 use Rattle.rules.specs.Lists.{if_then_else_, any, run}
 use Rattle.rules.specs.Line.{State, initial, Halt, LineReply, lineReads, lineHalts, readLine}
 use Rattle.rules.specs.Reading.{Line, linesOf, countLF, content, Entry, entry, Reading, reads, halts, withEntry, lineThen, readFrom, linesRead, byteSum, stateAt}
-use Rattle.rules.specs.Replies.{maxLevels, barge}
+use Rattle.rules.specs.Limits.{LineLimits, bargeLine}
 use Rattle.rules.specs.Records.{recordedBy, readLines}
 use Rattle.rules.specs.Page.{Sizes}
 use Rattle.rules.specs.StopRule.{Edit, edited, keptFrom, Mark, marksFrom, marksOf, sameMark, oldMark, isStop, rereadCount}
@@ -41,18 +41,18 @@ unfoldable pub keptLines : List Entry → Edit → (p : ℕ) → List Entry
 keptLines old ed p = drop (lineAtByte (ed .b + (p - keptFrom ed)) (marksFrom 0 old)) old
 
 -- lines read again from the state s, the first at p, up to the stop; from there the old lines, which end with the state `end`
-unfoldable pub reread : (limit : ℕ) → List Entry → (end : State) → Edit → (p : ℕ) → State → List Line → Reread
-reread limit old end ed p s [] = record { count = 0; reading = reads [] s }
-reread limit old end ed p s (l ∷ ls) =
+unfoldable pub reread : LineLimits → List Entry → (end : State) → Edit → (p : ℕ) → State → List Line → Reread
+reread lim old end ed p s [] = record { count = 0; reading = reads [] s }
+reread lim old end ed p s (l ∷ ls) =
     if isStop (marksFrom 0 old) ed (mark p s) then record { count = 0; reading = reads (keptLines old ed p) end }
-    else again s l (readLine limit s (content l)) (λ z. reread limit old end ed (p + length l) z ls)
+    else again s l (readLine lim s (content l)) (λ z. reread lim old end ed (p + length l) z ls)
 
 -- the lines before the first to be read again, then these
-unfoldable pub mend : (limit : ℕ) → List Entry → (end : State) → List ℕ → Edit → Reread
-mend limit old end t ed =
+unfoldable pub mend : LineLimits → List Entry → (end : State) → List ℕ → Edit → Reread
+mend lim old end t ed =
     let i : ℕ = countLF (take (ed .a) t) in
     let p : ℕ = byteSum (take i old) in
-    let r : Reread = reread limit old end ed p (stateAt old end i) (linesOf (drop p (edited t ed))) in
+    let r : Reread = reread lim old end ed p (stateAt old end i) (linesOf (drop p (edited t ed))) in
     record { count = r .count; reading = withEntries (take i old) (r .reading) }
 
 -- the lines from a line start on, once its line is passed
@@ -83,7 +83,7 @@ module _ (old : List Mark) (ed : Edit) where
   linesTo-withEntry p e (reads es z) = linesTo-cons p e es
   linesTo-withEntry p e (halts es h) = linesTo-cons p e es
 
-module _ (limit : ℕ) (old : List Entry) (end : State) (ed : Edit) where
+module _ (lim : LineLimits) (old : List Entry) (end : State) (ed : Edit) where
   count-step : (p : ℕ) (s : State) (l : Line) (y : LineReply) (f : State → Reread) (next : State → Reading) (v : Reading) (x : Bool)
       → isStop (marksFrom 0 old) ed (mark p s) ≡ x → ((z : State) → f z .count ≡ linesTo (marksFrom 0 old) ed (p + length l) (linesRead (next z)))
       → (if x then record { count = 0; reading = v } else again s l y f) .count ≡ linesTo (marksFrom 0 old) ed p (linesRead (lineThen s l y next))
@@ -96,15 +96,15 @@ module _ (limit : ℕ) (old : List Entry) (end : State) (ed : Edit) where
   count-step p s l (lineHalts r) f next v false q h = refl
 
   -- the lines read again are those that the stop rule counts
-  pub reread-count : (p : ℕ) (s : State) (ls : List Line) → reread limit old end ed p s ls .count ≡ linesTo (marksFrom 0 old) ed p (linesRead (readFrom limit s ls))
+  pub reread-count : (p : ℕ) (s : State) (ls : List Line) → reread lim old end ed p s ls .count ≡ linesTo (marksFrom 0 old) ed p (linesRead (readFrom lim s ls))
   unfolding reread readFrom linesRead marksFrom run
   reread-count p s [] = refl
   reread-count p s (l ∷ ls) =
-      count-step p s l (readLine limit s (content l)) (λ z. reread limit old end ed (p + length l) z ls) (λ z. readFrom limit z ls) (reads (keptLines old ed p) end)
+      count-step p s l (readLine lim s (content l)) (λ z. reread lim old end ed (p + length l) z ls) (λ z. readFrom lim z ls) (reads (keptLines old ed p) end)
       (isStop (marksFrom 0 old) ed (mark p s)) refl (λ z. reread-count (p + length l) z ls)
 
   -- at a stop no more lines count
-  pub stop-count : (p : ℕ) (s : State) (ls : List Line) → isStop (marksFrom 0 old) ed (mark p s) ≡ true → linesTo (marksFrom 0 old) ed p (linesRead (readFrom limit s ls)) ≡ 0
+  pub stop-count : (p : ℕ) (s : State) (ls : List Line) → isStop (marksFrom 0 old) ed (mark p s) ≡ true → linesTo (marksFrom 0 old) ed p (linesRead (readFrom lim s ls)) ≡ 0
   unfolding reread readFrom linesRead marksFrom run
   stop-count p s [] q = refl
   stop-count p s (l ∷ ls) q = sym (reread-count p s (l ∷ ls)) ∙ rw q
@@ -123,9 +123,9 @@ again-reading s l (lineReads ts z) f next h = ap (withEntry (entry s (length l) 
 again-reading s l (lineHalts r) f next h = refl
 
 -- The old text t and its reading; an edit that begins in it.
-module _ (limit : ℕ) (t : List ℕ) (old : List Entry) (end : State) (h : readFrom limit initial (linesOf t) ≡ reads old end) (ed : Edit) (ha : ed .a ≤ length t) where
+module _ (lim : LineLimits) (t : List ℕ) (old : List Entry) (end : State) (h : readFrom lim initial (linesOf t) ≡ reads old end) (ed : Edit) (ha : ed .a ≤ length t) where
   old-positive : Positive old
-  old-positive = read-positive limit (linesOf t) t initial old end refl h
+  old-positive = read-positive lim (linesOf t) t initial old end refl h
 
   -- at a stop, the old line that starts at the same byte of the kept tail, with the same state
   pub record Kept (p : ℕ) (s : State) : Type 0 where
@@ -147,41 +147,41 @@ module _ (limit : ℕ) (t : List ℕ) (old : List Entry) (end : State) (h : read
       )
 
   -- from an old line on, the old text reads as its old lines
-  old-tail : (i : ℕ) → readFrom limit (stateAt old end i) (linesOf (drop (byteSum (take i old)) t)) ≡ reads (drop i old) end
+  old-tail : (i : ℕ) → readFrom lim (stateAt old end i) (linesOf (drop (byteSum (take i old)) t)) ≡ reads (drop i old) end
   old-tail i =
-      let p = parts limit i initial (linesOf t) old end h in
-      ap (λ (n : ℕ). readFrom limit (stateAt old end i) (linesOf (drop n t))) (sym (p .sizes))
-      ∙ ap (readFrom limit (stateAt old end i)) (sym (drop-lines i t)) ∙ p .back
+      let p = parts lim i initial (linesOf t) old end h in
+      ap (λ (n : ℕ). readFrom lim (stateAt old end i) (linesOf (drop n t))) (sym (p .sizes))
+      ∙ ap (readFrom lim (stateAt old end i)) (sym (drop-lines i t)) ∙ p .back
 
   -- at a stop the rest of the edited text reads as the old lines from there
-  pub stop-run : (p : ℕ) (s : State) → isStop (marksFrom 0 old) ed (mark p s) ≡ true → readFrom limit s (linesOf (drop p (edited t ed))) ≡ reads (keptLines old ed p) end
+  pub stop-run : (p : ℕ) (s : State) → isStop (marksFrom 0 old) ed (mark p s) ≡ true → readFrom lim s (linesOf (drop p (edited t ed))) ≡ reads (keptLines old ed p) end
   stop-run p s q =
       let b = stop-kept p s q in
       let k = b .1 in
-      ap (λ (x : List ℕ). readFrom limit s (linesOf x)) (drop-edited t ed ha p (omega (arith, b .0)) ∙ ap (λ (n : ℕ). drop n t) (sym (k .start)))
-      ∙ ap (λ (z : State). readFrom limit z (linesOf (drop (byteSum (take (k .line) old)) t))) (k .state)
+      ap (λ (x : List ℕ). readFrom lim s (linesOf x)) (drop-edited t ed ha p (omega (arith, b .0)) ∙ ap (λ (n : ℕ). drop n t) (sym (k .start)))
+      ∙ ap (λ (z : State). readFrom lim z (linesOf (drop (byteSum (take (k .line) old)) t))) (k .state)
       ∙ old-tail (k .line) ∙ ap (λ (es : List Entry). reads es end) (sym (k .lines))
 
   reading-step : (p : ℕ) (s : State) (l : Line) (ls : List Line) (f : State → Reread) → linesOf (drop p (edited t ed)) ≡ l ∷ ls
-      → ((z : State) → f z .reading ≡ readFrom limit z ls) → (x : Bool) → isStop (marksFrom 0 old) ed (mark p s) ≡ x
-      → (if x then record { count = 0; reading = reads (keptLines old ed p) end } else again s l (readLine limit s (content l)) f) .reading ≡ readFrom limit s (l ∷ ls)
+      → ((z : State) → f z .reading ≡ readFrom lim z ls) → (x : Bool) → isStop (marksFrom 0 old) ed (mark p s) ≡ x
+      → (if x then record { count = 0; reading = reads (keptLines old ed p) end } else again s l (readLine lim s (content l)) f) .reading ≡ readFrom lim s (l ∷ ls)
   unfolding readFrom
-  reading-step p s l ls f hl ih true q = sym (stop-run p s q) ∙ ap (readFrom limit s) hl
-  reading-step p s l ls f hl ih false q = again-reading s l (readLine limit s (content l)) f (λ z. readFrom limit z ls) ih
+  reading-step p s l ls f hl ih true q = sym (stop-run p s q) ∙ ap (readFrom lim s) hl
+  reading-step p s l ls f hl ih false q = again-reading s l (readLine lim s (content l)) f (λ z. readFrom lim z ls) ih
 
   -- reading again is reading
-  pub reread-reading : (p : ℕ) (s : State) (ls : List Line) → linesOf (drop p (edited t ed)) ≡ ls → reread limit old end ed p s ls .reading ≡ readFrom limit s ls
+  pub reread-reading : (p : ℕ) (s : State) (ls : List Line) → linesOf (drop p (edited t ed)) ≡ ls → reread lim old end ed p s ls .reading ≡ readFrom lim s ls
   unfolding reread readFrom
   reread-reading p s [] hl = refl
   reread-reading p s (l ∷ ls) hl =
-      reading-step p s l ls (λ z. reread limit old end ed (p + length l) z ls) hl
+      reading-step p s l ls (λ z. reread lim old end ed (p + length l) z ls) hl
       (λ z. reread-reading (p + length l) z ls (pass (edited t ed) p l ls hl)) (isStop (marksFrom 0 old) ed (mark p s)) refl
 
   -- the lines before the first to be read again end within the first a bytes
   pub kept-size : byteSum (take (countLF (take (ed .a) t)) old) ≤ ed .a
   kept-size =
       let h1 : total (take (countLF (take (ed .a) t)) (linesOf t)) ≡ byteSum (take (countLF (take (ed .a) t)) old) =
-      parts limit (countLF (take (ed .a) t)) initial (linesOf t) old end h .sizes in
+      parts lim (countLF (take (ed .a) t)) initial (linesOf t) old end h .sizes in
       let h2 : total (take (countLF (take (ed .a) t)) (linesOf t)) ≤ length (take (ed .a) t) =
       rw (take-append-drop (ed .a) t) at (total-take-lines (take (ed .a) t) (drop (ed .a) t)) in
       omega (arith, length-take-le (ed .a) t ha)
@@ -189,31 +189,31 @@ module _ (limit : ℕ) (t : List ℕ) (old : List Entry) (end : State) (h : read
   pub kept-length : length (take (countLF (take (ed .a) t)) old) ≡ countLF (take (ed .a) t)
   kept-length =
       let h1 : countLF (take (ed .a) t) ≤ length (linesOf t) = rw (take-append-drop (ed .a) t) at (lfs-lines (take (ed .a) t) (drop (ed .a) t)) in
-      length-take-le (countLF (take (ed .a) t)) old (omega (arith, read-sizes limit initial (linesOf t) old end h .0))
+      length-take-le (countLF (take (ed .a) t)) old (omega (arith, read-sizes lim initial (linesOf t) old end h .0))
 
   -- they read as before, and end at the same byte
-  pub front-reads : readFrom limit initial (take (countLF (take (ed .a) t)) (linesOf (edited t ed)))
+  pub front-reads : readFrom lim initial (take (countLF (take (ed .a) t)) (linesOf (edited t ed)))
       ≡ reads (take (countLF (take (ed .a) t)) old) (stateAt old end (countLF (take (ed .a) t)))
-  front-reads = ap (readFrom limit initial) (same-front t ed ha) ∙ parts limit (countLF (take (ed .a) t)) initial (linesOf t) old end h .front
+  front-reads = ap (readFrom lim initial) (same-front t ed ha) ∙ parts lim (countLF (take (ed .a) t)) initial (linesOf t) old end h .front
 
   pub front-size : total (take (countLF (take (ed .a) t)) (linesOf (edited t ed))) ≡ byteSum (take (countLF (take (ed .a) t)) old)
-  front-size = ap total (same-front t ed ha) ∙ parts limit (countLF (take (ed .a) t)) initial (linesOf t) old end h .sizes
+  front-size = ap total (same-front t ed ha) ∙ parts lim (countLF (take (ed .a) t)) initial (linesOf t) old end h .sizes
 
   -- the edited text's reading: the kept lines, then a reading from the old state
-  pub fresh-parts : readFrom limit initial (linesOf (edited t ed))
+  pub fresh-parts : readFrom lim initial (linesOf (edited t ed))
       ≡ withEntries (take (countLF (take (ed .a) t)) old)
-      (readFrom limit (stateAt old end (countLF (take (ed .a) t))) (linesOf (drop (byteSum (take (countLF (take (ed .a) t)) old)) (edited t ed))))
+      (readFrom lim (stateAt old end (countLF (take (ed .a) t))) (linesOf (drop (byteSum (take (countLF (take (ed .a) t)) old)) (edited t ed))))
   fresh-parts =
       let i : ℕ = countLF (take (ed .a) t) in
       let rest : drop i (linesOf (edited t ed)) ≡ linesOf (drop (byteSum (take i old)) (edited t ed)) =
       drop-lines i (edited t ed) ∙ ap (λ (n : ℕ). linesOf (drop n (edited t ed))) front-size in
-      ap (readFrom limit initial) (sym (take-append-drop i (linesOf (edited t ed))))
-      ∙ readFrom-append limit initial (take i (linesOf (edited t ed))) (drop i (linesOf (edited t ed)))
-      ∙ ap (λ r. andThen r (λ z. readFrom limit z (drop i (linesOf (edited t ed))))) front-reads
-      ∙ ap (λ (ls : List Line). withEntries (take i old) (readFrom limit (stateAt old end i) ls)) rest
+      ap (readFrom lim initial) (sym (take-append-drop i (linesOf (edited t ed))))
+      ∙ readFrom-append lim initial (take i (linesOf (edited t ed))) (drop i (linesOf (edited t ed)))
+      ∙ ap (λ r. andThen r (λ z. readFrom lim z (drop i (linesOf (edited t ed))))) front-reads
+      ∙ ap (λ (ls : List Line). withEntries (take i old) (readFrom lim (stateAt old end i) ls)) rest
 
   -- THE MENDED READING is the fresh reading of the edited text, with the same refusal
-  pub mend-reading : mend limit old end t ed .reading ≡ readFrom limit initial (linesOf (edited t ed))
+  pub mend-reading : mend lim old end t ed .reading ≡ readFrom lim initial (linesOf (edited t ed))
   unfolding mend
   mend-reading =
       ap (withEntries (take (countLF (take (ed .a) t)) old))
@@ -222,13 +222,13 @@ module _ (limit : ℕ) (t : List ℕ) (old : List Entry) (end : State) (h : read
       ∙ sym fresh-parts
 
   -- the line starts of the edited text from the first line to be read again on
-  pub marks-from : drop (countLF (take (ed .a) t)) (marksFrom 0 (linesRead (readFrom limit initial (linesOf (edited t ed)))))
+  pub marks-from : drop (countLF (take (ed .a) t)) (marksFrom 0 (linesRead (readFrom lim initial (linesOf (edited t ed)))))
       ≡ marksFrom (byteSum (take (countLF (take (ed .a) t)) old))
-      (linesRead (readFrom limit (stateAt old end (countLF (take (ed .a) t))) (linesOf (drop (byteSum (take (countLF (take (ed .a) t)) old)) (edited t ed)))))
+      (linesRead (readFrom lim (stateAt old end (countLF (take (ed .a) t))) (linesOf (drop (byteSum (take (countLF (take (ed .a) t)) old)) (edited t ed)))))
   marks-from =
       let i : ℕ = countLF (take (ed .a) t) in
       let p : ℕ = byteSum (take i old) in
-      let tail : Reading = readFrom limit (stateAt old end i) (linesOf (drop p (edited t ed))) in
+      let tail : Reading = readFrom lim (stateAt old end i) (linesOf (drop p (edited t ed))) in
       let n : length (marksFrom 0 (take i old)) ≡ i = length-marks 0 (take i old) ∙ kept-length in
       ap (λ (x : Reading). drop i (marksFrom 0 (linesRead x))) fresh-parts
       ∙ ap (λ (x : List Entry). drop i (marksFrom 0 x)) (linesRead-withEntries (take i old) tail)
@@ -237,27 +237,27 @@ module _ (limit : ℕ) (t : List ℕ) (old : List Entry) (end : State) (h : read
       ∙ ap (λ (x : ℕ). marksFrom x (linesRead tail)) (zero-add p)
 
 -- the stop rule's count, from the first line to be read again on
-pub count-from : (t : List ℕ) (old : List Entry) (end : State) → readFrom maxLevels initial (linesOf t) ≡ reads old end → (ed : Edit) → ed .a ≤ length t
-    → rereadCount t ed
+pub count-from : (lim : LineLimits) (t : List ℕ) (old : List Entry) (end : State) → readFrom lim initial (linesOf t) ≡ reads old end → (ed : Edit) → ed .a ≤ length t
+    → rereadCount lim t ed
     ≡ linesTo (marksFrom 0 old) ed (byteSum (take (countLF (take (ed .a) t)) old))
-    (linesRead (readFrom maxLevels (stateAt old end (countLF (take (ed .a) t))) (linesOf (drop (byteSum (take (countLF (take (ed .a) t)) old)) (edited t ed)))))
+    (linesRead (readFrom lim (stateAt old end (countLF (take (ed .a) t))) (linesOf (drop (byteSum (take (countLF (take (ed .a) t)) old)) (edited t ed)))))
 unfolding rereadCount marksOf linesRead
-count-from t old end h ed ha =
-    ap (λ (x : Reading). run (λ m. not (isStop (marksFrom 0 (linesRead x)) ed m)) (drop (countLF (take (ed .a) t)) (marksOf (edited t ed)))) h
-    ∙ ap (run (λ m. not (isStop (marksFrom 0 old) ed m))) (marks-from maxLevels t old end h ed ha)
+count-from lim t old end h ed ha =
+    ap (λ (x : Reading). run (λ m. not (isStop (marksFrom 0 (linesRead x)) ed m)) (drop (countLF (take (ed .a) t)) (marksOf lim (edited t ed)))) h
+    ∙ ap (run (λ m. not (isStop (marksFrom 0 old) ed m))) (marks-from lim t old end h ed ha)
 
 -- THE MENDED COUNT is the stop rule's
-pub mend-count : (t : List ℕ) (old : List Entry) (end : State) → readFrom maxLevels initial (linesOf t) ≡ reads old end
-    → (ed : Edit) → ed .a ≤ length t → mend maxLevels old end t ed .count ≡ rereadCount t ed
+pub mend-count : (lim : LineLimits) (t : List ℕ) (old : List Entry) (end : State) → readFrom lim initial (linesOf t) ≡ reads old end
+    → (ed : Edit) → ed .a ≤ length t → mend lim old end t ed .count ≡ rereadCount lim t ed
 unfolding mend
-mend-count t old end h ed ha =
+mend-count lim t old end h ed ha =
     let i : ℕ = countLF (take (ed .a) t) in
     let p : ℕ = byteSum (take i old) in
-    reread-count maxLevels old end ed p (stateAt old end i) (linesOf (drop p (edited t ed))) ∙ sym (count-from t old end h ed ha)
+    reread-count lim old end ed p (stateAt old end i) (linesOf (drop p (edited t ed))) ∙ sym (count-from lim t old end h ed ha)
 
 -- The outcome, from the mended reading.
-pub outcome-mend : (z : Sizes) (t : List ℕ) (ed : Edit) (old : List Entry) (end : State) → readFrom maxLevels initial (linesOf t) ≡ reads old end → ed .a ≤ length t
-    → outcome z t ed ≡ through (gate z t ed) (stored z (mend maxLevels old end t ed .count) (recordedBy barge (mend maxLevels old end t ed .reading)))
+pub outcome-mend : (z : Sizes) (t : List ℕ) (ed : Edit) (old : List Entry) (end : State) → readFrom bargeLine initial (linesOf t) ≡ reads old end → ed .a ≤ length t
+    → outcome z t ed ≡ through (gate z t ed) (stored z (mend bargeLine old end t ed .count) (recordedBy (mend bargeLine old end t ed .reading)))
 unfolding outcome readLines
 outcome-mend z t ed old end h ha =
-    rw (mend-count t old end h ed ha, mend-reading maxLevels t old end h ed ha)
+    rw (mend-count bargeLine t old end h ed ha, mend-reading bargeLine t old end h ed ha)

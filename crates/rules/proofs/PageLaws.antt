@@ -14,9 +14,11 @@ use borrow.Author.Tests.{leb-true, le-leb}
 use Rattle.rules.specs.Lists.{if_then_else_, same}
 use Rattle.rules.specs.Line.{initial, Halt, failed, overLimit}
 use Rattle.rules.specs.Reading.{linesOf, Reading, reads, halts, readFrom, byteSum}
-use Rattle.rules.specs.Replies.{barge, Unread, reading, numberedUnread, numbered, isRefused, isTooLong, tooLongBy, isMalformed, malformedBy}
+use Rattle.rules.specs.Limits.{barge, bargeLine, deepNumber}
+use Rattle.rules.specs.Replies.{Unread, tooLong, malformed, lexical, atLine, reading, failureWords, numberedUnread, numbered, isRefused, isTooLong, tooLongBy, isMalformed, malformedBy}
 use Rattle.rules.specs.Records.{lineNeed, tokenNeed, Header, header, headerWords, Records, haltRefusal, recordedBy, FreshReading, recorded, unread, readLines, freshReadingBy, freshReading}
-use Rattle.rules.specs.Page.{Page, fits, pageText, pageRecords, Faithful, sameRecords, isRecorded, isFaithful}
+use Rattle.rules.specs.Page.{Page, fits, pageText, pageRecords, Faithful, sameRecords, isRecorded, isFaithful, headerAfter}
+use Rattle.rules.proofs.LimitLaws.{HaltNumbered, halt-numbered}
 use Rattle.rules.proofs.ListLaws.{and-true}
 use Rattle.rules.proofs.RecordLaws.{fresh-sizes}
 use Rattle.rules.proofs.StateLaws.{same-true, same-refl}
@@ -26,42 +28,52 @@ use Rattle.rules.proofs.StateLaws.{same-true, same-refl}
 pub data FreshCases (u : List ℕ) : FreshReading → Type 0 where
   long : isTooLong barge u ≡ true → FreshCases u (unread (tooLongBy barge u))
   illFormed : isTooLong barge u ≡ false → isMalformed u ≡ true → FreshCases u (unread (malformedBy u))
-  lines : {f : FreshReading} → isTooLong barge u ≡ false → isMalformed u ≡ false → readLines barge u ≡ f → FreshCases u f
+  lines : {f : FreshReading} → isTooLong barge u ≡ false → isMalformed u ≡ false → readLines bargeLine u ≡ f → FreshCases u f
 
 pub fresh-cases : (u : List ℕ) → FreshCases u (freshReading u)
 unfolding freshReading freshReadingBy
 fresh-cases u = go (isTooLong barge u) refl (isMalformed u) refl
   where
     go : (x : Bool) → isTooLong barge u ≡ x → (y : Bool) → isMalformed u ≡ y
-        → FreshCases u (if x then unread (tooLongBy barge u) else if y then unread (malformedBy u) else readLines barge u)
+        → FreshCases u (if x then unread (tooLongBy barge u) else if y then unread (malformedBy u) else readLines bargeLine u)
     go true ex y ey = long ex
     go false ex true ey = illFormed ex ey
     go false ex false ey = lines ex ey refl
 
 -- past 1 and 2 it is that of the lines
-pub fresh-lines : (u : List ℕ) → isTooLong barge u ≡ false → isMalformed u ≡ false → freshReading u ≡ readLines barge u
+pub fresh-lines : (u : List ℕ) → isTooLong barge u ≡ false → isMalformed u ≡ false → freshReading u ≡ readLines bargeLine u
 unfolding freshReading freshReadingBy
 fresh-lines u x y = rw (x, y)
 
 -- a text that reads has passed them
-pub fresh-inverse : (u : List ℕ) (r : Records) → freshReading u ≡ recorded r → (isTooLong barge u ≡ false) × (isMalformed u ≡ false) × (readLines barge u ≡ recorded r)
+pub fresh-inverse : (u : List ℕ) (r : Records) → freshReading u ≡ recorded r → (isTooLong barge u ≡ false) × (isMalformed u ≡ false) × (readLines bargeLine u ≡ recorded r)
 fresh-inverse u r h = go (freshReading u) (fresh-cases u) h
   where
-    go : (f : FreshReading) → FreshCases u f → f ≡ recorded r → (isTooLong barge u ≡ false) × (isMalformed u ≡ false) × (readLines barge u ≡ recorded r)
+    go : (f : FreshReading) → FreshCases u f → f ≡ recorded r → (isTooLong barge u ≡ false) × (isMalformed u ≡ false) × (readLines bargeLine u ≡ recorded r)
     go f (long x) e = let n : _≡_ {A = ℕ} 0 1 = cc in absurd (omega arith)
     go f (illFormed x y) e = let n : _≡_ {A = ℕ} 0 1 = cc in absurd (omega arith)
     go f (lines x y q) e = (x, y, q ∙ e)
 
 -- a text that does not read is refused with a number that is not 0
-halt-refused : (p l : ℕ) (h : Halt) → isRefused (numbered (reading (haltRefusal barge p l h))) ≡ true
-unfolding haltRefusal numbered numberedUnread isRefused
-halt-refused p l (failed f) = refl
-halt-refused p l overLimit = refl
+-- the header stays where a text is refused by itself, whatever the number
+pub unread-kept : (h : Header) (u : Unread) → headerAfter h (numberedUnread u) ≡ h
+unfolding headerAfter numberedUnread failureWords
+unread-kept h (tooLong zero n) = refl
+unread-kept h (tooLong (suc number) n) = refl
+unread-kept h (malformed n) = refl
+unread-kept h (lexical f) = refl
+unread-kept h (atLine zero l) = refl
+unread-kept h (atLine (suc number) l) = refl
 
-lines-refused : (r : Reading) (x : Unread) → recordedBy barge r ≡ unread x → isRefused (numbered (reading x)) ≡ true
+halt-refused : (p l : ℕ) (h : Halt) → HaltNumbered bargeLine h → isRefused (numbered (reading (haltRefusal p l h))) ≡ true
+unfolding haltRefusal numbered numberedUnread isRefused
+halt-refused p l (failed f) k = refl
+halt-refused p l (overLimit number) deepNumber = refl
+
+lines-refused : (u : List ℕ) (r : Reading) → readFrom bargeLine initial (linesOf u) ≡ r → (x : Unread) → recordedBy r ≡ unread x → isRefused (numbered (reading x)) ≡ true
 unfolding recordedBy
-lines-refused (reads es s) x e = let n : _≡_ {A = ℕ} 0 1 = cc in absurd (omega arith)
-lines-refused (halts es h) x e = let s : haltRefusal barge (byteSum es) (suc (length es)) h ≡ x = cc in rw s at (halt-refused (byteSum es) (suc (length es)) h)
+lines-refused u (reads es s) q x e = let n : _≡_ {A = ℕ} 0 1 = cc in absurd (omega arith)
+lines-refused u (halts es h) q x e = let s : haltRefusal (byteSum es) (suc (length es)) h ≡ x = cc in rw s at (halt-refused (byteSum es) (suc (length es)) h (halt-numbered bargeLine initial (linesOf u) es h q))
 
 pub unread-refused : (u : List ℕ) (x : Unread) → freshReading u ≡ unread x → isRefused (numbered (reading x)) ≡ true
 unfolding readLines tooLongBy malformedBy numbered numberedUnread isRefused
@@ -70,7 +82,7 @@ unread-refused u x e = go (freshReading u) (fresh-cases u) e
     go : (f : FreshReading) → FreshCases u f → f ≡ unread x → isRefused (numbered (reading x)) ≡ true
     go f (long a) q = let s : tooLongBy barge u ≡ x = cc in rw (← s)
     go f (illFormed a b) q = let s : malformedBy u ≡ x = cc in rw (← s)
-    go f (lines a b c) q = lines-refused (readFrom (barge .levels) initial (linesOf u)) x (c ∙ q)
+    go f (lines a b c) q = lines-refused u (readFrom bargeLine initial (linesOf u)) refl x (c ∙ q)
 
 -- Fitting.
 
@@ -101,7 +113,7 @@ page-length pg f = length-take-le (pg .head .n) (pg .text) (f .text)
 -- a faithful page fits
 pub faithful-fits : (pg : Page) → Faithful pg → Fits pg
 faithful-fits pg h =
-    let s = fresh-sizes (pageText pg) (pageRecords pg) (fresh-inverse (pageText pg) (pageRecords pg) h .2) in
+    let s = fresh-sizes bargeLine (pageText pg) (pageRecords pg) (fresh-inverse (pageText pg) (pageRecords pg) h .2) in
     record {
       text = omega (arith, s .0, length-take (pg .head .n) (pg .text));
       lines = omega (arith, s .1, length-take (lineNeed (pg .head .m)) (pg .lines));

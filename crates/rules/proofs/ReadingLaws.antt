@@ -5,6 +5,7 @@ use mathlib.Core.Path.{_≡_, refl, sym, ap, _∙_, fun-ext}
 use mathlib.Core.List.{List, [], _∷_, _++_, append-nil}
 use native.Mathlib.Omega.{arith}
 use lib.ListN.{length, take, drop}
+use Rattle.rules.specs.Limits.{LineLimits}
 use Rattle.rules.specs.Line.{State, Token, Halt, LineReply, lineReads, lineHalts, readLine}
 use Rattle.rules.specs.Reading.{Line, linesOf, content, Entry, entry, Reading, reads, halts, withEntry, lineThen, readFrom, linesRead, byteSum, tokenSum, stateAt}
 use Rattle.rules.proofs.LineLaws.{total, lines-append}
@@ -49,28 +50,28 @@ unfolding withEntry
 withEntries-halts [] fs h = refl
 withEntries-halts (e ∷ es) fs h = ap (withEntry e) (withEntries-halts es fs h)
 
-module _ (limit : ℕ) where
+module _ (lim : LineLimits) where
   -- lines after lines are read from the state reached
-  pub readFrom-append : (s : State) (xs ys : List Line) → readFrom limit s (xs ++ ys) ≡ andThen (readFrom limit s xs) (λ z. readFrom limit z ys)
+  pub readFrom-append : (s : State) (xs ys : List Line) → readFrom lim s (xs ++ ys) ≡ andThen (readFrom lim s xs) (λ z. readFrom lim z ys)
   unfolding readFrom
   readFrom-append s [] ys = refl
   readFrom-append s (l ∷ xs) ys =
-      ap (lineThen s l (readLine limit s (content l))) (fun-ext (λ z. readFrom-append z xs ys))
-      ∙ line-andThen s l (readLine limit s (content l)) (λ z. readFrom limit z xs) (λ z. readFrom limit z ys)
+      ap (lineThen s l (readLine lim s (content l))) (fun-ext (λ z. readFrom-append z xs ys))
+      ∙ line-andThen s l (readLine lim s (content l)) (λ z. readFrom lim z xs) (λ z. readFrom lim z ys)
 
   -- a text after one that ends with LF
   pub read-split : (s : State) (u v : List ℕ)
-      → readFrom limit s (linesOf (u ++ 10 ∷ v)) ≡ andThen (readFrom limit s (linesOf (u ++ 10 ∷ []))) (λ z. readFrom limit z (linesOf v))
-  read-split s u v = ap (readFrom limit s) (lines-append u v) ∙ readFrom-append s (linesOf (u ++ 10 ∷ [])) (linesOf v)
+      → readFrom lim s (linesOf (u ++ 10 ∷ v)) ≡ andThen (readFrom lim s (linesOf (u ++ 10 ∷ []))) (λ z. readFrom lim z (linesOf v))
+  read-split s u v = ap (readFrom lim s) (lines-append u v) ∙ readFrom-append s (linesOf (u ++ 10 ∷ [])) (linesOf v)
 
   -- one line more, read or not
   pub read-more : (s : State) (xs : List Line) (es : List Entry) (z : State) (l : Line) (ts : List Token) (z′ : State)
-      → readFrom limit s xs ≡ reads es z → readLine limit z (content l) ≡ lineReads ts z′ → readFrom limit s (xs ++ l ∷ []) ≡ reads (es ++ entry z (length l) ts ∷ []) z′
+      → readFrom lim s xs ≡ reads es z → readLine lim z (content l) ≡ lineReads ts z′ → readFrom lim s (xs ++ l ∷ []) ≡ reads (es ++ entry z (length l) ts ∷ []) z′
   unfolding withEntry lineThen readFrom
   read-more s xs es z l ts z′ h e = readFrom-append s xs (l ∷ []) ∙ rw (h, e) (withEntries-reads es _ z′)
 
   pub read-halts : (s : State) (xs : List Line) (es : List Entry) (z : State) (l : Line) (ys : List Line) (r : Halt)
-      → readFrom limit s xs ≡ reads es z → readLine limit z (content l) ≡ lineHalts r → readFrom limit s (xs ++ l ∷ ys) ≡ halts es r
+      → readFrom lim s xs ≡ reads es z → readLine lim z (content l) ≡ lineHalts r → readFrom lim s (xs ++ l ∷ ys) ≡ halts es r
   unfolding readFrom lineThen
   read-halts s xs es z l ys r h e =
       readFrom-append s xs (l ∷ ys) ∙ rw (h, e) (withEntries-halts es [] r ∙ ap (λ (x : List Entry). halts x r) (append-nil es))
@@ -95,11 +96,11 @@ module _ (limit : ℕ) where
 
   -- a reading cut after its first i lines
   pub record Parts (s : State) (ls : List Line) (es : List Entry) (z : State) (i : ℕ) : Type 0 where
-    pub front : readFrom limit s (take i ls) ≡ reads (take i es) (stateAt es z i)
-    pub back : readFrom limit (stateAt es z i) (drop i ls) ≡ reads (drop i es) z
+    pub front : readFrom lim s (take i ls) ≡ reads (take i es) (stateAt es z i)
+    pub back : readFrom lim (stateAt es z i) (drop i ls) ≡ reads (drop i es) z
     pub sizes : total (take i ls) ≡ byteSum (take i es)
 
-  pub parts : (i : ℕ) (s : State) (ls : List Line) (es : List Entry) (z : State) → readFrom limit s ls ≡ reads es z → Parts s ls es z i
+  pub parts : (i : ℕ) (s : State) (ls : List Line) (es : List Entry) (z : State) → readFrom lim s ls ≡ reads es z → Parts s ls es z i
   unfolding withEntry lineThen readFrom byteSum
   parts i s [] es z h =
       let c : es ≡ [] = cc in
@@ -110,26 +111,26 @@ module _ (limit : ℕ) where
       none zero = record { front = refl; back = refl; sizes = refl }
       none (suc i) = record { front = refl; back = refl; sizes = refl }
   parts zero s (l ∷ ls) es z h =
-      let st = step s l (readLine limit s (content l)) (λ y. readFrom limit y ls) es z h in
+      let st = step s l (readLine lim s (content l)) (λ y. readFrom lim y ls) es z h in
       rw (st .entries-are) record { front = refl; back = h ∙ ap (λ (r : List Entry). reads r z) (st .entries-are); sizes = refl }
   parts (suc i) s (l ∷ ls) es z h =
-      let st = step s l (readLine limit s (content l)) (λ y. readFrom limit y ls) es z h in
+      let st = step s l (readLine lim s (content l)) (λ y. readFrom lim y ls) es z h in
       let ih = parts i (st .mid) ls (st .rest) z (st .rest-is) in
       rw (st .entries-are) record {
-        front = ap (λ y. lineThen s l y (λ z. readFrom limit z (take i ls))) (st .line-is)
+        front = ap (λ y. lineThen s l y (λ z. readFrom lim z (take i ls))) (st .line-is)
             ∙ ap (withEntry (entry s (length l) (st .ts))) (ih .front);
         back = ih .back;
         sizes = ap (λ (n : ℕ). length l + n) (ih .sizes);
       }
 
   -- an entry for each line, of its size
-  pub read-sizes : (s : State) (ls : List Line) (es : List Entry) (z : State) → readFrom limit s ls ≡ reads es z → (length es ≡ length ls) × (byteSum es ≡ total ls)
+  pub read-sizes : (s : State) (ls : List Line) (es : List Entry) (z : State) → readFrom lim s ls ≡ reads es z → (length es ≡ length ls) × (byteSum es ≡ total ls)
   unfolding readFrom byteSum
   read-sizes s [] es z h =
       let c : es ≡ [] = cc in
       rw c (refl, refl)
   read-sizes s (l ∷ ls) es z h =
-      let st = step s l (readLine limit s (content l)) (λ y. readFrom limit y ls) es z h in
+      let st = step s l (readLine lim s (content l)) (λ y. readFrom lim y ls) es z h in
       let ih = read-sizes (st .mid) ls (st .rest) z (st .rest-is) in
       rw (st .entries-are) (ap suc (ih .0), ap (λ (n : ℕ). length l + n) (ih .1))
 

@@ -9,7 +9,7 @@ use lib.ListN.{length, take, drop, replicate, length-append, take-append-drop}
 use lib.Seq.{drop-at, take-at, take-append-le, length-take-le}
 use Rattle.rules.specs.Line.{State, initial, Token}
 use Rattle.rules.specs.Reading.{linesOf, Entry, Reading, reads, halts, readFrom, byteSum, tokenSum, stateAt}
-use Rattle.rules.specs.Replies.{maxLevels, barge}
+use Rattle.rules.specs.Limits.{LineLimits, bargeLine}
 use Rattle.rules.specs.Records.{widthWords, lineSize, tokenSize, lineNeed, tokenNeed, packed, stateWords, lineRecord, tokenWords, lineRecords, tokenRecords, endEntry, withEnd, header, Records, recordsOf, haltRefusal, FreshReading, recorded, unread, recordedBy, readLines, Behind}
 use Rattle.rules.proofs.LineLaws.{total, total-lines}
 use Rattle.rules.proofs.ReadingLaws.{read-sizes, tokenSum-append, byteSum-append}
@@ -111,29 +111,29 @@ tokenRecords-drop p l j es h =
 -- A fresh reading.
 
 -- the records of a text that reads come from its lines
-pub behind : (t : List ℕ) (r : Records) → readLines barge t ≡ recorded r → Behind t r
+pub behind : (lim : LineLimits) (t : List ℕ) (r : Records) → readLines lim t ≡ recorded r → Behind lim t r
 unfolding readLines recordedBy
-behind t r h = go (readFrom maxLevels initial (linesOf t)) refl h
+behind lim t r h = go (readFrom lim initial (linesOf t)) refl h
   where
-    go : (x : Reading) → readFrom maxLevels initial (linesOf t) ≡ x → recordedBy barge x ≡ recorded r → Behind t r
+    go : (x : Reading) → readFrom lim initial (linesOf t) ≡ x → recordedBy x ≡ recorded r → Behind lim t r
     go (reads es s) q f = record { entries = es; end = s; reads-are = q; records-are = (cc) }
     go (halts es h) q f = let z : _≡_ {A = ℕ} 0 1 = cc in absurd (omega arith)
 
 -- their sizes
-pub fresh-sizes : (t : List ℕ) (r : Records) → readLines barge t ≡ recorded r
+pub fresh-sizes : (lim : LineLimits) (t : List ℕ) (r : Records) → readLines lim t ≡ recorded r
     → (r .head .n ≡ length t) × (length (r .lines) ≡ lineNeed (r .head .m)) × (length (r .tokens) ≡ tokenNeed (r .head .k))
 unfolding recordsOf
-fresh-sizes t r h =
-    let b = behind t r h in
+fresh-sizes lim t r h =
+    let b = behind lim t r h in
     let es : List Entry = b .entries in
     let s : State = b .end in
     rw (b .records-are) (
-      read-sizes maxLevels initial (linesOf t) es s (b .reads-are) .1 ∙ total-lines t,
+      read-sizes lim initial (linesOf t) es s (b .reads-are) .1 ∙ total-lines t,
       length-lineRecords 0 0 (withEnd es s) ∙ ap (λ (i : ℕ). lineSize * i) (length-append es (endEntry s ∷ [])),
       length-tokenRecords 0 1 (withEnd es s),
     )
 
 -- the empty text: no lines, no tokens, one line record of zeros
-pub fresh-empty : readLines barge [] ≡ recorded (record { head = header 0 0 0; lines = replicate lineSize 0; tokens = [] })
+pub fresh-empty : readLines bargeLine [] ≡ recorded (record { head = header 0 0 0; lines = replicate lineSize 0; tokens = [] })
 unfolding stateWords readLines recordedBy readFrom linesOf recordsOf byteSum tokenSum lineRecords tokenRecords lineRecord tokenWords packed
 fresh-empty = refl

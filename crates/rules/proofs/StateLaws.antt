@@ -11,7 +11,7 @@ use lib.Dec.{eqb}
 use borrow.Author.Tests.{eqb-true, eq-eqb}
 use Rattle.rules.specs.Lists.{same, bit}
 use Rattle.rules.specs.Line.{State}
-use Rattle.rules.specs.Replies.{maxLevels}
+use Rattle.rules.specs.Limits.{maxLevels}
 use Rattle.rules.specs.Records.{widthWords, packed, stateWords}
 use Rattle.rules.specs.StopRule.{sameState}
 use Rattle.rules.proofs.ListLaws.{and-true}

@@ -11,6 +11,7 @@ use lib.Seq.{drop-drop, drop-nil, getD-drop, drop-append-add, length-take-le}
 use lib.Dec.{ltb, eqb}
 use borrow.Author.Tests.{ltb-true, lt-ltb, le-ltb, eqb-true, eq-eqb, ne-eqb}
 use Rattle.rules.specs.Lists.{any, run}
+use Rattle.rules.specs.Limits.{LineLimits}
 use Rattle.rules.specs.Line.{State, initial, readLine}
 use Rattle.rules.specs.Reading.{Line, linesOf, content, Entry, entry, Reading, reads, readFrom, byteSum, stateAt}
 use Rattle.rules.specs.StopRule.{Edit, edited, keptFrom, Mark, marksFrom, sameState, sameMark, oldMark, isStop}
@@ -64,12 +65,12 @@ abbrev pub Positive : List Entry → Type 0
 Positive [] = Unit {0}
 Positive (e ∷ es) = (0 < e .size) × Positive es
 
-pub read-positive : (limit : ℕ) (ls : List Line) (t : List ℕ) (s : State) (es : List Entry) (z : State) → linesOf t ≡ ls → readFrom limit s ls ≡ reads es z → Positive es
+pub read-positive : (lim : LineLimits) (ls : List Line) (t : List ℕ) (s : State) (es : List Entry) (z : State) → linesOf t ≡ ls → readFrom lim s ls ≡ reads es z → Positive es
 unfolding readFrom
-read-positive limit [] t s es z hl h = let k : es ≡ [] = cc in rw k tt
-read-positive limit (l ∷ ls) t s es z hl h =
-    let st = step limit s l (readLine limit s (content l)) (λ y. readFrom limit y ls) es z h in
-    rw (st .entries-are) (first-some t l ls hl, read-positive limit ls (drop (length l) t) (st .mid) (st .rest) z (next-line t l ls hl) (st .rest-is))
+read-positive lim [] t s es z hl h = let k : es ≡ [] = cc in rw k tt
+read-positive lim (l ∷ ls) t s es z hl h =
+    let st = step lim s l (readLine lim s (content l)) (λ y. readFrom lim y ls) es z h in
+    rw (st .entries-are) (first-some t l ls hl, read-positive lim ls (drop (length l) t) (st .mid) (st .rest) z (next-line t l ls hl) (st .rest-is))
 
 -- the number of lines that start before the one at byte q
 unfoldable pub lineAtByte : (q : ℕ) → List Mark → ℕ

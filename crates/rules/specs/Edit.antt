@@ -9,7 +9,8 @@ use lib.Dec.{ltb}
 use lib.ListN.{length}
 use Rattle.rules.specs.Lists.{overwrite}
 use Rattle.rules.specs.Failure.{FailureRecord}
-use Rattle.rules.specs.Replies.{barge, Refusal, reading, lexical, atLine, short, outside, unfit, Reply, numbered, accepted, textBuffer, spareBuffer, linesBuffer, tokensBuffer, refusedIf, firstOf, unless, longTest, formTest, roomTest}
+use Rattle.rules.specs.Limits.{bargeLine, LimitNumber}
+use Rattle.rules.specs.Replies.{Refusal, reading, lexical, atLine, short, outside, unfit, Reply, numbered, accepted, textBuffer, spareBuffer, linesBuffer, tokensBuffer, refusedIf, firstOf, unless, longTest, formTest, roomTest}
 use Rattle.rules.specs.Records.{lineNeed, tokenNeed, Header, headerWords, Records, recordTests, FreshReading, recorded, unread, readLines}
 use Rattle.rules.specs.Page.{Page, Lent, Sizes, sizes, fits, pageText, Faithful, headerAfter, pageRules}
 use Rattle.rules.specs.StopRule.{Edit, edited, rereadCount, stopRules}
@@ -52,7 +53,7 @@ through none rest = rest
 
 -- what an edit of the text t comes to, with buffers of these lengths
 unfoldable pub outcome : Sizes → List ℕ → Edit → Outcome
-outcome z t ed = through (gate z t ed) (stored z (rereadCount t ed) (readLines barge (edited t ed)))
+outcome z t ed = through (gate z t ed) (stored z (rereadCount bargeLine t ed) (readLines bargeLine (edited t ed)))
 
 -- The reply, and what is lent afterwards.
 
@@ -83,11 +84,11 @@ unfoldable pub pageGate : Lent → Edit → Option Outcome
 pageGate q ed =
     unless (refusedIf (not (fits (q .page))) unfit) (λ r. some (early r)) (gate (sizes q) (pageText (q .page)) ed)
 
--- past the gate on any page: 3, 4, 5 (lines), 5 (tokens) or 7; or the edited text with a header of three u32, any records that fit and
+-- past the gate on any page: 3, 4 (a limit of the lines), 5 (lines), 5 (tokens) or 7; or the edited text with a header of three u32, any records that fit and
 -- any count
 pub data Free (q : Lent) (u : List ℕ) : Outcome → Type 0 where
   failure : (f : FailureRecord) → Free q u (late (reading (lexical f)))
-  deep : (line : ℕ) → Free q u (late (reading (atLine (barge .tooDeepNumber) line)))
+  limit : (number line : ℕ) → LimitNumber bargeLine number → Free q u (late (reading (atLine number line)))
   fewLines : (least : ℕ) → Free q u (late (short linesBuffer least))
   fewTokens : (least : ℕ) → Free q u (late (short tokensBuffer least))
   stale : Free q u (late unfit)

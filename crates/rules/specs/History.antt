@@ -5,6 +5,7 @@ use mathlib.Core.Path.{_≡_}
 use mathlib.Core.Bool.{true}
 use mathlib.Core.List.{List, [], _∷_, _++_}
 use lib.ListN.{length}
+use Rattle.rules.specs.Limits.{bargeLine}
 use Rattle.rules.specs.Replies.{Unread, Refusal, reading, Reply, numbered, accepted, isRefused}
 use Rattle.rules.specs.Records.{lineSize, lineNeed, tokenNeed, headerWords, Records, recorded, unread, freshReading}
 use Rattle.rules.specs.Page.{Page, Lent, Sizes, sizes, pageText, pageRecords, FreshPost}
@@ -62,7 +63,7 @@ pub record LongEnough (z : Sizes) (t : List ℕ) (ed : Edit) : Type 0 where
 -- otherwise refused as its fresh reading is; any other edit is refused; the number of a refusal is not 0
 pub record Settled (z : Sizes) (t : List ℕ) (ed : Edit) (reply : Reply) (t′ : List ℕ) : Type 0 where
   pub accepts : Proper t ed → LongEnough z t ed → (r : Records) → freshReading (edited t ed) ≡ recorded r
-      → (reply ≡ accepted (headerWords (r .head) ++ (rereadCount t ed ∷ []))) × (t′ ≡ edited t ed)
+      → (reply ≡ accepted (headerWords (r .head) ++ (rereadCount bargeLine t ed ∷ []))) × (t′ ≡ edited t ed)
   pub refuses : Proper t ed → LongEnough z t ed → (u : Unread) → freshReading (edited t ed) ≡ unread u
       → (reply ≡ numbered (reading u)) × (isRefused reply ≡ true) × (t′ ≡ t)
   pub otherwise : (Proper t ed → LongEnough z t ed → ⊥) → (r : Refusal) × (reply ≡ numbered r) × (isRefused reply ≡ true) × (t′ ≡ t)

@@ -4,6 +4,7 @@ pub mod Kinds
 pub mod Tables
 pub mod Failure
 pub mod Cut
+pub mod Limits
 pub mod Line
 pub mod Reading
 pub mod Replies

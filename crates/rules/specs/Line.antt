@@ -10,6 +10,7 @@ use Rattle.rules.specs.Lists.{if_then_else_, ascii, begins, run, trimEnd
 use Rattle.rules.specs.Kinds.{Implies, LParen, RParen, Indent, Dedent, Newline}
 use Rattle.rules.specs.Tables.{isBlank}
 use Rattle.rules.specs.Failure.{Failure, failure, badIndent}
+use Rattle.rules.specs.Limits.{LineLimits}
 use Rattle.rules.specs.Cut.{Cut, blank, comment, ends, token, fails, cut, cutRules}
 
 -- the state before a line: bracket depth, whether an arrow is carried, and the widths of the open levels, outermost first
@@ -86,28 +87,29 @@ isBlankLine line =
 unfoldable pub isCompared : State → List ℕ → Bool
 isCompared s line = not (isBlankLine line) && (eqb (s .depth) 0 && not (s .arrow))
 
--- an Indent or Dedents, and the widths then open; or a width that is none of them; or a level too many
+-- an Indent or Dedents, and the widths then open; or a width that is none of them; or a limit's refusal, by its number
 pub data Levels : Type 0 where
   levels : List Token → List ℕ → Levels
   unequal : Levels
-  tooDeep : Levels
+  beyond : (number : ℕ) → Levels
 
 abbrev pub dedents : ℕ → List Token
 dedents n = replicate n (tokenAt Dedent 0 0)
 
 -- wider: one Indent, the width pushed
-unfoldable pub opened : (limit w : ℕ) → List ℕ → Levels
-opened limit w had = if ltb (length had) limit then levels (tokenAt Indent 0 0 ∷ []) (had ++ (w ∷ [])) else tooDeep
+unfoldable pub opened : LineLimits → (w : ℕ) → List ℕ → Levels
+opened lim w had =
+    if ltb (length had) (lim .levels) then levels (tokenAt Indent 0 0 ∷ []) (had ++ (w ∷ [])) else beyond (lim .tooDeepNumber)
 
 -- otherwise one Dedent for each width that is popped; what is left must end with the line's width
 unfoldable pub closed : (w : ℕ) → (had left : List ℕ) → Levels
 closed w had left = if eqb (lastD left 0) w then levels (dedents (length had - length left)) left else unequal
 
-unfoldable pub compared : (limit w : ℕ) → List ℕ → Levels
-compared limit w had = if ltb (lastD had 0) w then opened limit w had else closed w had (trimEnd (ltb w) had)
+unfoldable pub compared : LineLimits → (w : ℕ) → List ℕ → Levels
+compared lim w had = if ltb (lastD had 0) w then opened lim w had else closed w had (trimEnd (ltb w) had)
 
-unfoldable pub levelsOf : (limit : ℕ) → State → List ℕ → Levels
-levelsOf limit s line = if isCompared s line then compared limit (indentWidth line) (s .widths) else levels [] (s .widths)
+unfoldable pub levelsOf : LineLimits → State → List ℕ → Levels
+levelsOf lim s line = if isCompared s line then compared lim (indentWidth line) (s .widths) else levels [] (s .widths)
 
 -- The whole line.
 
@@ -121,10 +123,10 @@ unfoldable pub arrowAfter : (a : Bool) → List Token → Bool
 arrowAfter a [] = a
 arrowAfter a (t ∷ ts) = arrowAfter (eqb (t .kind) Implies) ts
 
--- why a line does not read: a failure at an offset in it, or a level beyond the limit
+-- why a line does not read: a failure at an offset in it, or a limit's refusal, by its number
 pub data Halt : Type 0 where
   failed : Failure → Halt
-  overLimit : Halt
+  overLimit : (number : ℕ) → Halt
 
 -- the line's tokens with the state after it, or why it does not read
 pub data LineReply : Type 0 where
@@ -140,11 +142,11 @@ withCuts s line leading widths (cuts ts) =
 unfoldable pub withLevels : State → List ℕ → Levels → LineReply
 withLevels s line (levels leading widths) = withCuts s line leading widths (cutsFrom 0 0 line)
 withLevels s line unequal = lineHalts (failed (failure badIndent 0 0 (indentSize line)))
-withLevels s line tooDeep = lineHalts overLimit
+withLevels s line (beyond number) = lineHalts (overLimit number)
 
--- a line without its LF, read from the state before it, with at most `limit` levels
-unfoldable pub readLine : (limit : ℕ) → State → List ℕ → LineReply
-readLine limit s line = withLevels s line (levelsOf limit s line)
+-- a line without its LF, read from the state before it
+unfoldable pub readLine : LineLimits → State → List ℕ → LineReply
+readLine lim s line = withLevels s line (levelsOf lim s line)
 
 -- opens the definitions above, and those of the modules below, where a proof says `unfolding lineRules`
 unfoldable pub lineRules : Unit {0}

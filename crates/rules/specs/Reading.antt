@@ -7,6 +7,7 @@ use mathlib.Core.List.{List, [], _∷_, _++_}
 use lib.Dec.{eqb}
 use lib.ListN.{length, take, drop}
 use Rattle.rules.specs.Lists.{if_then_else_, run}
+use Rattle.rules.specs.Limits.{LineLimits}
 use Rattle.rules.specs.Line.{State, initial, Token, Halt, LineReply, lineReads, lineHalts, readLine, lineRules}
 
 -- Lines: one ends after each LF, and bytes after the last LF are one too.
@@ -77,10 +78,10 @@ unfoldable pub lineThen : State → Line → LineReply → (State → Reading) �
 lineThen s l (lineReads ts z) next = withEntry (entry s (length l) ts) (next z)
 lineThen s l (lineHalts h) next = halts [] h
 
--- lines read from a state, with at most `limit` levels
-unfoldable pub readFrom : (limit : ℕ) → State → List Line → Reading
-readFrom limit s [] = reads [] s
-readFrom limit s (l ∷ ls) = lineThen s l (readLine limit s (content l)) (λ z. readFrom limit z ls)
+-- lines read from a state
+unfoldable pub readFrom : LineLimits → State → List Line → Reading
+readFrom lim s [] = reads [] s
+readFrom lim s (l ∷ ls) = lineThen s l (readLine lim s (content l)) (λ z. readFrom lim z ls)
 
 -- the lines read before the end or the halt
 unfoldable pub linesRead : Reading → List Entry

@@ -10,7 +10,8 @@ use Rattle.rules.specs.Lists.{if_then_else_, bit}
 use Rattle.rules.specs.Failure.{failureRecord}
 use Rattle.rules.specs.Line.{State, initial, Token, dedents, Halt, failed, overLimit}
 use Rattle.rules.specs.Reading.{linesOf, Entry, entry, Reading, reads, halts, readFrom, byteSum, tokenSum, readingRules}
-use Rattle.rules.specs.Replies.{maxLevels, Limits, barge, Unread, lexical, atLine, Refusal, linesBuffer, tokensBuffer, isTooLong, tooLongBy, isMalformed, malformedBy, roomTest, replyRules}
+use Rattle.rules.specs.Limits.{maxLevels, LineLimits, Limits, barge}
+use Rattle.rules.specs.Replies.{Unread, lexical, atLine, Refusal, linesBuffer, tokensBuffer, isTooLong, tooLongBy, isMalformed, malformedBy, roomTest, replyRules}
 
 -- Sizes in words.
 
@@ -110,33 +111,33 @@ pub data FreshReading : Type 0 where
   unread : Unread → FreshReading
 
 -- 3 or 4, at the line with this number, which starts at this byte
-unfoldable pub haltRefusal : Limits → (start number : ℕ) → Halt → Unread
-haltRefusal lim p l (failed f) = lexical (failureRecord p l f)
-haltRefusal lim p l overLimit = atLine (lim .tooDeepNumber) l
+unfoldable pub haltRefusal : (start number : ℕ) → Halt → Unread
+haltRefusal p l (failed f) = lexical (failureRecord p l f)
+haltRefusal p l (overLimit number) = atLine number l
 
-unfoldable pub recordedBy : Limits → Reading → FreshReading
-recordedBy lim (reads es s) = recorded (recordsOf es s)
-recordedBy lim (halts es h) = unread (haltRefusal lim (byteSum es) (suc (length es)) h)
+unfoldable pub recordedBy : Reading → FreshReading
+recordedBy (reads es s) = recorded (recordsOf es s)
+recordedBy (halts es h) = unread (haltRefusal (byteSum es) (suc (length es)) h)
 
 -- 3 or 4 as the reading meets them
-unfoldable pub readLines : Limits → List ℕ → FreshReading
-readLines lim t = recordedBy lim (readFrom (lim .levels) initial (linesOf t))
+unfoldable pub readLines : LineLimits → List ℕ → FreshReading
+readLines lim t = recordedBy (readFrom lim initial (linesOf t))
 
 -- 1, 2, then those
 unfoldable pub freshReadingBy : Limits → List ℕ → FreshReading
 freshReadingBy lim t =
     if isTooLong lim t then unread (tooLongBy lim t)
     else if isMalformed t then unread (malformedBy t)
-    else readLines lim t
+    else readLines (lim .line) t
 
 unfoldable pub freshReading : List ℕ → FreshReading
 freshReading t = freshReadingBy barge t
 
 -- the lines that the records of a text come from
-pub record Behind (t : List ℕ) (r : Records) : Type 0 where
+pub record Behind (lim : LineLimits) (t : List ℕ) (r : Records) : Type 0 where
   pub entries : List Entry
   pub end : State
-  pub reads-are : readFrom maxLevels initial (linesOf t) ≡ reads entries end
+  pub reads-are : readFrom lim initial (linesOf t) ≡ reads entries end
   pub records-are : r ≡ recordsOf entries end
 
 -- opens the definitions above, and those of the modules below, where a proof says `unfolding recordRules`

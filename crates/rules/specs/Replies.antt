@@ -9,27 +9,12 @@ use lib.ListN.{length}
 use Rattle.rules.specs.Lists.{if_then_else_}
 use Rattle.rules.specs.Utf8.{wellFormedPrefix}
 use Rattle.rules.specs.Failure.{FailureRecord}
-
--- Limits, and the numbers of the refusals beyond them.
-
-abbrev pub maxBytes : ℕ
-maxBytes = 1_048_576
-
-abbrev pub maxLevels : ℕ
-maxLevels = 16
-
-pub record Limits : Type 0 where
-  pub bytes : ℕ
-  pub levels : ℕ
-  pub tooLongNumber : ℕ
-  pub tooDeepNumber : ℕ
-
-abbrev pub barge : Limits
-barge = record { bytes = maxBytes; levels = maxLevels; tooLongNumber = 1; tooDeepNumber = 4 }
+use Rattle.rules.specs.Limits.{Limits, barge}
 
 -- Refusals.
 
--- why a text by itself is refused: 1 with the length, 2 with the longest well-formed prefix, 3 with the failure record, 4 with the line
+-- why a text by itself is refused: 1 with the length, 2 with the longest well-formed prefix, 3 with the failure record, a
+-- limit of the lines with the line (4)
 pub data Unread : Type 0 where
   tooLong : (number size : ℕ) → Unread
   malformed : (size : ℕ) → Unread

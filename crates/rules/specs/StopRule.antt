@@ -6,9 +6,9 @@ use mathlib.Core.List.{List, [], _∷_, _++_}
 use lib.Dec.{ltb, eqb}
 use lib.ListN.{length, take, drop}
 use Rattle.rules.specs.Lists.{any, run, same, listRules}
+use Rattle.rules.specs.Limits.{LineLimits}
 use Rattle.rules.specs.Line.{State, initial}
 use Rattle.rules.specs.Reading.{linesOf, countLF, Entry, readFrom, linesRead, stateAt, byteSum, readingRules}
-use Rattle.rules.specs.Replies.{maxLevels}
 
 -- bytes a..b become w
 pub record Edit : Type 0 where
@@ -46,8 +46,8 @@ marksFrom p [] = []
 marksFrom p (e ∷ es) = record { start = p; state = e .before } ∷ marksFrom (p + e .size) es
 
 -- the line starts of a text, as a fresh reading has them
-unfoldable pub marksOf : List ℕ → List Mark
-marksOf t = marksFrom 0 (linesRead (readFrom maxLevels initial (linesOf t)))
+unfoldable pub marksOf : LineLimits → List ℕ → List Mark
+marksOf lim t = marksFrom 0 (linesRead (readFrom lim initial (linesOf t)))
 
 unfoldable pub sameState : State → State → Bool
 sameState s z = eqb (s .depth) (z .depth) && (Bool·beq (s .arrow) (z .arrow) && same (s .widths) (z .widths))
@@ -64,8 +64,8 @@ unfoldable pub isStop : (old : List Mark) → Edit → Mark → Bool
 isStop old ed m = ltb (keptFrom ed) (m .start) && any (sameMark (oldMark ed m)) old
 
 -- the lines of the edited text from where re-reading begins to the first stop, otherwise to the end
-unfoldable pub rereadCount : List ℕ → Edit → ℕ
-rereadCount t ed = run (λ m. not (isStop (marksOf t) ed m)) (drop (fromLine t ed) (marksOf (edited t ed)))
+unfoldable pub rereadCount : LineLimits → List ℕ → Edit → ℕ
+rereadCount lim t ed = run (λ m. not (isStop (marksOf lim t) ed m)) (drop (fromLine t ed) (marksOf lim (edited t ed)))
 
 -- opens the definitions above, and those of the modules below, where a proof says `unfolding stopRules`
 unfoldable pub stopRules : Unit {0}

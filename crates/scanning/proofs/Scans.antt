@@ -1,36 +1,33 @@
 -- What `scan` prints, by the answer of `read`.
 -- Assumes nothing.
-use Prim.Native.Nat.{ℕ, suc, _+_, _*_, _≤_, _<_}
+use Prim.Native.Nat.{ℕ, _+_, _*_, _≤_, _<_}
 use mathlib.Core.Path.{_≡_, refl, sym, ap, subst, _∙_}
 use mathlib.Core.Bool.{true}
 use mathlib.Core.List.{List, [], _∷_, _++_, append-nil}
 use native.Mathlib.Omega.{arith}
 use lib.ListN.{length, take, drop, length-append}
 use lib.Seq.{length-take-le}
-use borrow.Author.Tests.{lt-ltb, le-ltb, ltb-false}
+use borrow.Author.Tests.{lt-ltb, le-ltb}
 use Rattle.rules.specs.Lists.{ascii, concat, overwrite}
-use Rattle.rules.specs.Utf8.{WellFormed, wellFormedPrefix}
-use Rattle.rules.specs.Failure as rules-failure
-use Rattle.rules.specs.Failure.{failureRecord}
-use Rattle.rules.specs.Line.{initial, failed, overLimit}
-use Rattle.rules.specs.Reading.{linesOf, Reading, reads, halts, readFrom, byteSum}
-use Rattle.rules.specs.Replies.{barge, tooLong, malformed, lexical, atLine, firstOf, unless, refusedIf, numbered, numberedUnread, failureWords, tooLongBy, isMalformed, malformedBy}
-use Rattle.rules.specs.Records.{tokenSize, Header, header, lineNeed, tokenNeed, Records, recordTests, FreshReading, recorded, unread, haltRefusal, recordedBy, readLines, freshReading}
+use Rattle.rules.specs.Limits.{bargeLine}
+use Rattle.rules.specs.Replies.{tooLong, malformed, lexical, atLine, firstOf, unless, refusedIf, numbered, numberedUnread, failureWords}
+use Rattle.rules.specs.Records.{tokenSize, Header, header, lineNeed, tokenNeed, Records, recordTests, FreshReading, recorded, unread, freshReading}
 use Rattle.rules.specs.Read.{Filled, filled, filledBy, readInto}
 use Rattle.rules.specs.Scan.{scanBytes, pageRow, tokenRows, refusedRow, printed, scanOutput}
-use Rattle.rules.proofs.Utf8Laws.{prefix-le, whole-iff}
 use Rattle.rules.proofs.RecordLaws.{fresh-sizes}
-use Rattle.rules.proofs.PageLaws.{FreshCases, long, illFormed, lines, fresh-cases, fresh-inverse}
+use Rattle.rules.proofs.PageLaws.{fresh-inverse}
 use Rattle.rules.proofs.BoundLaws.{AllLe, wordMax, fresh-small}
-use Rattle.rules.proofs.FailureLaws.{failure-placed}
-use Rattle.lines.specs.declared.FailureRecord.{FailureRecord}
-use Rattle.lines.specs.Steps.{recordIn}
-use Rattle.reading.specs.Answers.{failureNumbers}
+use Rattle.refusals.specs.declared.FailureRecord.{FailureRecord}
+use Rattle.refusals.specs.declared.Unread.{Unread}
+use Rattle.refusals.specs.declared.Unread.the-variants.{TooLong, Malformed, Fails, AtLine}
+use Rattle.refusals.specs.Unreads.{recordOf, unreadOf}
 use Rattle.reading.proofs.Fills.{overwritten}
 use Rattle.message.specs.Messages.{Room, Put}
 use Rattle.message.proofs.Fields.{concat-one}
 use Rattle.message.proofs.Whole.{message-of}
 use Rattle.report.specs.Answers.{messageIn, Printable}
+use Rattle.report.proofs.Reports.{printable}
+use Rattle.scanning.specs.Shown.{Shows}
 use Rattle.scanning.proofs.Rows.{rows-front}
 use Rattle.scanning.proofs.Sizes.{rows-small, refused-room, rows-room-in, message-room-in}
 
@@ -82,8 +79,8 @@ module _ (t L T : List ℕ) (small : length t ≤ 512) (hl : 10_773 ≤ length L
   unfolding filledBy recordTests firstOf unless refusedIf
   held r e =
       let q = fresh-inverse t r e .2 in
-      let z = fresh-sizes t r q in
-      let s = fresh-small t r (omega arith) q in
+      let z = fresh-sizes bargeLine t r q in
+      let s = fresh-small bargeLine (omega arith) t r (omega arith) q in
       let hm : lineNeed (r .head .m) ≤ length L = omega (arith, z .0, s .m-le) in
       let hk : tokenNeed (r .head .k) ≤ length T = omega (arith, z .0, s .k-le) in
       record {
@@ -104,12 +101,6 @@ module _ (t L T : List ℕ) (small : length t ≤ 512) (hl : 10_773 ≤ length L
   refused-is number v (unread (tooLong i n)) e h = let q : i ≡ number = cc in ap refusedRow q
   refused-is number v (unread (malformed n)) e h = let q : 2 ≡ number = cc in ap refusedRow q
   refused-is number v (unread (atLine i l)) e h = let q : i ≡ number = cc in ap refusedRow q
-
-  pub refused-scanned : {out : List ℕ} {r : ℕ} {O : List ℕ} (number v : ℕ) → number ∷ v ∷ [] ≡ readInto t L T .reply → number ≤ 5 → 65_536 ≤ length out
-      → Put true out 0 (refusedRow number ∷ []) O r → Scanned t out r O
-  refused-scanned {out} number v h k room p =
-      let e : printed t (freshReading t) ≡ refusedRow number = refused-is number v (freshReading t) refl (replied (freshReading t) refl (number ∷ v ∷ []) h) in
-      scanned t (refused-room out number room k) (concat-one (refusedRow number) ∙ sym e ∙ by-reading (freshReading t) refl) p
 
   -- 5 does not occur
   short-never : (b v : ℕ) (x : FreshReading) → freshReading t ≡ x → 5 ∷ b ∷ v ∷ [] ≡ filledBy L T x .reply → ⊥
@@ -189,68 +180,44 @@ module _ (t L T : List ℕ) (small : length t ≤ 512) (hl : 10_773 ≤ length L
     page-scanned room p = scanned t (page-room room .1) page-is p
 
   -- 3
-  record Failing (f : FailureRecord) : Type 0 where
-    pub failure : rules-failure.FailureRecord
-    pub reading-is : freshReading t ≡ unread (lexical failure)
-    pub record-is : f ≡ recordIn failure
-
-  failing : (f : FailureRecord) (x : FreshReading) → freshReading t ≡ x → 3 ∷ failureNumbers f ≡ filledBy L T x .reply → Failing f
+  failing : (f : FailureRecord) (x : FreshReading) → freshReading t ≡ x → 3 ∷ failureWords (recordOf f) ≡ filledBy L T x .reply → freshReading t ≡ unread (lexical (recordOf f))
   unfolding filledBy numbered numberedUnread failureWords
   failing f (recorded r) e h = absurd (omega (arith, ap length (h ∙ ap (λ (y : Filled). y .reply) (held r e .fills))))
   failing f (unread (tooLong i v)) e h = absurd (omega (arith, ap length h))
   failing f (unread (malformed v)) e h = absurd (omega (arith, ap length h))
   failing f (unread (atLine i l)) e h = absurd (omega (arith, ap length h))
   failing f (unread (lexical g)) e h =
-      let e1 : f .code ≡ g .code = cc in
-      let e2 : f .detail ≡ g .detail = cc in
-      let e3 : f .found ≡ g .found = cc in
-      let e4 : f .position ≡ g .position = cc in
-      let e5 : f .line ≡ g .line = cc in
-      let e6 : f .column ≡ g .column = cc in
-      let e7 : f .from ≡ g .from = cc in
-      let e8 : f .to ≡ g .to = cc in
-      record {
-        failure = g;
-        reading-is = e;
-        record-is = λ i. record { code = e1 i; detail = e2 i; found = e3 i; position = e4 i; line = e5 i; column = e6 i; from = e7 i; to = e8 i };
-      }
+      let e1 : g .code ≡ f .code = cc in
+      let e2 : g .detail ≡ f .detail = cc in
+      let e3 : g .found ≡ f .found = cc in
+      let e4 : g .position ≡ f .position = cc in
+      let e5 : g .line ≡ f .line = cc in
+      let e6 : g .column ≡ f .column = cc in
+      let e7 : g .from ≡ f .from = cc in
+      let e8 : g .to ≡ f .to = cc in
+      e ∙ (λ i. unread (lexical (record { code = e1 i; detail = e2 i; found = e3 i; position = e4 i; line = e5 i; column = e6 i; from = e7 i; to = e8 i })))
 
-  -- a failure of the fresh reading can be printed
-  lexical-printable : (g : rules-failure.FailureRecord) (x : FreshReading) → FreshCases t x → x ≡ unread (lexical g) → Printable t (recordIn g)
-  unfolding tooLongBy malformedBy isMalformed readLines recordedBy haltRefusal failureRecord
-  lexical-printable g x (long a) e = let z : _≡_ {A = ℕ} 0 1 = cc in absurd (omega arith)
-  lexical-printable g x (illFormed a b) e = let z : _≡_ {A = ℕ} 0 1 = cc in absurd (omega arith)
-  lexical-printable g x (lines a b q) e = go (readFrom 16 initial (linesOf t)) refl (q ∙ e)
-    where
-      formed : WellFormed t
-      formed = whole-iff t .0 (omega (arith, prefix-le t, ltb-false (wellFormedPrefix t) (length t) b))
+  -- what the refusal shows
+  shows-refused : (number v : ℕ) → number ∷ v ∷ [] ≡ readInto t L T .reply → scanOutput t ≡ refusedRow number
+  shows-refused number v h =
+      sym (by-reading (freshReading t) refl) ∙ refused-is number v (freshReading t) refl (replied (freshReading t) refl (number ∷ v ∷ []) h)
 
-      go : (y : Reading) → readFrom 16 initial (linesOf t) ≡ y → recordedBy barge y ≡ unread (lexical g) → Printable t (recordIn g)
-      go (reads es z) d j = let z : _≡_ {A = ℕ} 0 1 = cc in absurd (omega arith)
-      go (halts es overLimit) d j = let z : _≡_ {A = ℕ} 0 1 = cc in absurd (omega arith)
-      go (halts es (failed f)) d j =
-          let v = failure-placed 16 initial t es f formed d in
-          let w = v .known-failure in
-          let i : failureRecord (byteSum es) (suc (length es)) f ≡ g = cc in
-          subst (λ (y : rules-failure.FailureRecord). Printable t (recordIn y)) i
-          (w .some-detail, w .last-detail, w .found-small, omega arith, omega (arith, v .inside), omega arith, omega arith)
+  pub shows : (u : Unread) → numberedUnread (unreadOf u) ≡ readInto t L T .reply → Shows t u
+  unfolding numberedUnread printed
+  shows (TooLong number n) h = shows-refused number n h
+  shows (Malformed n) h = shows-refused 2 n h
+  shows (AtLine number l) h = shows-refused number l h
+  shows (Fails f) h =
+      let e = failing f (freshReading t) refl (replied (freshReading t) refl (3 ∷ failureWords (recordOf f)) h) in
+      (printable t f e, sym (by-reading (unread (lexical (recordOf f))) e) ∙ ap (λ (s : List ℕ). s ++ ascii "\n") (sym (message-of t (recordOf f))))
 
-  module _ (f : FailureRecord) (h : 3 ∷ failureNumbers f ≡ readInto t L T .reply) (line : f .line < 10_000_000_000) where
-    fails : Failing f
-    fails = failing f (freshReading t) refl (replied (freshReading t) refl (3 ∷ failureNumbers f) h)
+-- What is put for a refusal.
 
-    failure-is : concat (messageIn t f ∷ ascii "\n" ∷ []) ≡ scanOutput t
-    unfolding printed concat
-    failure-is =
-        ap (λ (x : FailureRecord). messageIn t x ++ ascii "\n") (fails .record-is)
-        ∙ ap (λ (s : List ℕ). s ++ ascii "\n") (message-of t (fails .failure))
-        ∙ by-reading (unread (lexical (fails .failure))) (fails .reading-is)
+pub refused-scanned : (t : List ℕ) {out : List ℕ} {r : ℕ} {O : List ℕ} (number : ℕ) → 65_536 ≤ length out → number < 10_000_000_000 → scanOutput t ≡ refusedRow number
+    → Put true out 0 (refusedRow number ∷ []) O r → Scanned t out r O
+refused-scanned t {out} number room k e p = scanned t (refused-room out number room k) (concat-one (refusedRow number) ∙ sym e) p
 
-    pub failure-room : {out : List ℕ} → 65_536 ≤ length out → Printable t f × Room true out 0 (messageIn t f ∷ ascii "\n" ∷ [])
-    failure-room {out} room =
-        let p : Printable t f =
-        subst (Printable t) (sym (fails .record-is)) (lexical-printable (fails .failure) (freshReading t) (fresh-cases t) (fails .reading-is)) in
-        (p, message-room-in out t f room small p line)
-
-    pub failure-scanned : {out : List ℕ} {r : ℕ} {O : List ℕ} → 65_536 ≤ length out → Put true out 0 (messageIn t f ∷ ascii "\n" ∷ []) O r → Scanned t out r O
-    failure-scanned room p = scanned t (failure-room room .1) failure-is p
+pub failure-scanned : (t : List ℕ) {out : List ℕ} {r : ℕ} {O : List ℕ} (f : FailureRecord) → 65_536 ≤ length out → length t ≤ 512 → f .line < 10_000_000_000 → Shows t (Fails f)
+    → Put true out 0 (messageIn t f ∷ ascii "\n" ∷ []) O r → Scanned t out r O
+unfolding concat
+failure-scanned t {out} f room small line s p = scanned t (message-room-in out t f room small (s .0) line) (sym (s .1)) p

@@ -12,7 +12,7 @@ use Rattle.rules.specs.Report.{decimal}
 use Rattle.rules.specs.Scan.{pageRow, tokenRow, tokenRows, refusedRow}
 use Rattle.rules.proofs.BoundLaws.{AllLe, wordMax}
 use Rattle.print.proofs.Prints.{places-le}
-use Rattle.lines.specs.declared.FailureRecord.{FailureRecord}
+use Rattle.refusals.specs.declared.FailureRecord.{FailureRecord}
 use Rattle.message.specs.Messages.{Room}
 use Rattle.message.proofs.Fields.{concat-one}
 use Rattle.message.proofs.Details.{length-decimal}
@@ -50,9 +50,9 @@ page-small : (n m k : ℕ) → n ≤ 512 → m ≤ 512 → k ≤ 1_024 → lengt
 unfolding pageRow concat
 page-small n m k hn hm hk = simp length-append (omega (arith, word-small n (omega arith), word-small m (omega arith), word-small k (omega arith)))
 
-refused-small : (number : ℕ) → number ≤ wordMax → length (refusedRow number) ≤ 18
+refused-small : (number : ℕ) → number < 10_000_000_000 → length (refusedRow number) ≤ 21
 unfolding refusedRow concat
-refused-small number h = simp length-append (omega (arith, word-small number h))
+refused-small number h = simp length-append (omega (arith, length-decimal number, places-le 9 number number (omega arith)))
 
 -- the message of a failure in a text of at most 512 bytes
 message-small : (t : List ℕ) (f : FailureRecord) → length t ≤ 512 → Printable t f → f .line < 10_000_000_000 → length (messageIn t f) ≤ 1_184
@@ -72,8 +72,8 @@ length-two : (x y : List ℕ) → length (concat (x ∷ y ∷ [])) ≡ length x 
 unfolding concat
 length-two x y = length-append x (y ++ []) ∙ ap (λ (n : ℕ). length x + n) (length-one y)
 
-pub refused-room : (out : List ℕ) (number : ℕ) → 65_536 ≤ length out → number ≤ 5 → Room true out 0 (refusedRow number ∷ [])
-refused-room out number h k = room-in out (refusedRow number ∷ []) h (omega (arith, length-one (refusedRow number), refused-small number (omega arith)))
+pub refused-room : (out : List ℕ) (number : ℕ) → 65_536 ≤ length out → number < 10_000_000_000 → Room true out 0 (refusedRow number ∷ [])
+refused-room out number h k = room-in out (refusedRow number ∷ []) h (omega (arith, length-one (refusedRow number), refused-small number k))
 
 pub rows-room-in : (out : List ℕ) (n m k : ℕ) (ws : List ℕ) → 65_536 ≤ length out → n ≤ 512 → m ≤ 512 → k ≤ 1_024 → length (tokenRows k ws) ≤ 57 * k
     → Room true out 0 (pageRow (header n m k) ∷ tokenRows k ws ∷ [])

@@ -10,6 +10,7 @@ ghost use Rattle.rules.specs.Report.{decimal};
 ghost use Rattle.rules.specs.Scan.{pageRow, tokenRow, tokenRows, refusedRow, scanOutput};
 ghost use Rattle.message.specs.Messages.{Room, Put};
 ghost use Rattle.report.specs.Answers.{messageIn, Printable};
+ghost use Rattle.scanning.specs.Shown.{Shows};
 
 // A label, and a number in decimal digits after it.
 fn put_labelled(out: &mut [u8], at: usize, label: &[u8], n: u32) -> usize
@@ -70,7 +71,7 @@ fn put_page(out: &mut [u8], tokens: &[u32], n: usize, m: usize, k: usize) -> usi
 }
 
 // The message of a failure, and LF.
-fn put_failure(out: &mut [u8], text: &[u8], f: lines::FailureRecord) -> usize
+fn put_failure(out: &mut [u8], text: &[u8], f: refusals::FailureRecord) -> usize
     requires { ⌜ Printable (now text) f ⌝ }
     requires { ⌜ Room true (now out) 0 (messageIn (now text) f ∷ ascii "\n" ∷ []) ⌝ }
     ensures { λ r. ⌜ Put true (now (out .entry)) 0 (messageIn (now (text .entry)) f ∷ ascii "\n" ∷ []) (now (out .exit)) r ⌝ }
@@ -98,6 +99,21 @@ fn put_refused(out: &mut [u8], number: u32) -> usize
     print::put_bytes(out, true, next, b")\n")
 }
 
+// Why a text of at most 512 bytes does not read: the message of its failure, or the number of another refusal.
+fn put_unread(out: &mut [u8], text: &[u8], u: refusals::Unread) -> usize
+    requires { ⌜ (65_536 ≤ length (now out)) × (length (now text) ≤ 512) ⌝ }
+    requires { ⌜ Shows (now text) u ⌝ }
+    ensures { λ r. ⌜ r ≡ length (scanOutput (now (text .entry))) ⌝ }
+    ensures { λ _. ⌜ now (out .exit) ≡ overwrite (scanOutput (now (text .entry))) (now (out .entry)) ⌝ }
+{
+    match u {
+        refusals::Unread::TooLong(number, _) => put_refused(out, number),
+        refusals::Unread::Malformed(_) => put_refused(out, 2),
+        refusals::Unread::Fails(f) => put_failure(out, text, f),
+        refusals::Unread::AtLine(number, _) => put_refused(out, number),
+    }
+}
+
 // What `scan` prints for a text, at the front of out; its length. 65,536 bytes hold it for every text. So do 513 line records and 1,024
 // token records for a text of 512 bytes: the answers that a buffer is short do not occur.
 fn put_scan(out: &mut [u8], text: &[u8]) -> usize
@@ -112,10 +128,7 @@ fn put_scan(out: &mut [u8], text: &[u8]) -> usize
     let mut tokens: [u32; 5_120] = [0; 5_120];
     match reading::read(text, &mut lines, &mut tokens) {
         reading::ReadAnswer::Records(n, m, k) => put_page(out, &tokens, n, m, k),
-        reading::ReadAnswer::TooLong(_) => put_refused(out, 1),
-        reading::ReadAnswer::Malformed(_) => put_refused(out, 2),
-        reading::ReadAnswer::Fails(f) => put_failure(out, text, f),
-        reading::ReadAnswer::TooDeep(_) => put_refused(out, 4),
+        reading::ReadAnswer::Refused(u) => put_unread(out, text, u),
         reading::ReadAnswer::ShortLines(_) => put_refused(out, 5),
         reading::ReadAnswer::ShortTokens(_) => put_refused(out, 5),
     }

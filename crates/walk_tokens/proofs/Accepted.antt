@@ -8,7 +8,8 @@ use native.Mathlib.Omega.{arith}
 use lib.Dec.{ltb}
 use lib.ListN.{length}
 use borrow.Author.Tests.{ltb-false}
-use Rattle.rules.specs.Replies.{tooLong, malformed, lexical, atLine, barge, isTooLong, linesBuffer, tokensBuffer, firstOf, unless, refusedIf, numbered, numberedUnread, failureWords}
+use Rattle.rules.specs.Limits.{barge, bargeLine}
+use Rattle.rules.specs.Replies.{tooLong, malformed, lexical, atLine, isTooLong, linesBuffer, tokensBuffer, firstOf, unless, refusedIf, numbered, numberedUnread, failureWords}
 use Rattle.rules.specs.Records.{tokenSize, lineNeed, tokenNeed, Records, recordTests, FreshReading, recorded, unread, freshReading}
 use Rattle.rules.specs.Read.{filledBy, readInto}
 use Rattle.rules.proofs.PageLaws.{fresh-inverse}
@@ -39,7 +40,7 @@ module _ (t L T : List ℕ) (n m k : ℕ) where
       go false false a b =
           let q : answer ≡ (0 ∷ r .head .n ∷ r .head .m ∷ r .head .k ∷ []) = h ∙ rw (a, b) in
           let i = fresh-inverse t r e in
-          let s = fresh-small t r (ltb-false (barge .bytes) (length t) (i .0)) (i .2) in
+          let s = fresh-small bargeLine (omega arith) t r (ltb-false (barge .bytes) (length t) (i .0)) (i .2) in
           let en : n ≡ r .head .n = cc in
           let em : m ≡ r .head .m = cc in
           let ek : k ≡ r .head .k = cc in

@@ -9,7 +9,7 @@ use lib.ListN.{length, take, drop, length-append, length-drop, length-replicate,
 use lib.Seq.{sets, length-take-le, take-nil}
 use Rattle.rules.specs.Line.{State, tokenAt, dedents}
 use Rattle.rules.specs.Reading.{Line, isLF, onto, linesOf, Reading, reads, halts, linesRead, tokenSum}
-use Rattle.rules.specs.Replies.{maxLevels}
+use Rattle.rules.specs.Limits.{bargeLine}
 use Rattle.rules.specs.Records.{widthWords, lineSize, tokenSize, lineRecord, lineRecords, tokenWords, tokenRecords, endEntry, withEnd}
 use Rattle.rules.proofs.LineLaws.{total, next, total-append, total-lines}
 use Rattle.rules.proofs.ReadingLaws.{read-sizes, tokenSum-append}
@@ -74,7 +74,7 @@ module _ {u lines : List ℕ} {m k : ℕ} {p : Plan} (pl : Planned u lines m k p
       go (halts es h) e r = absurd r
       go (reads es z) e r =
           let rest : List ℕ = drop (p .base) u in
-          let s = read-sizes maxLevels (stateFrom lines (p .i)) (take (p .count) (linesOf rest)) es z e in
+          let s = read-sizes bargeLine (stateFrom lines (p .i)) (take (p .count) (linesOf rest)) es z e in
           let w : total (linesOf rest) ≡ total (take (p .count) (linesOf rest)) + total (drop (p .count) (linesOf rest)) =
           ap total (sym (take-append-drop (p .count) (linesOf rest))) ∙ total-append (take (p .count) (linesOf rest)) (drop (p .count) (linesOf rest)) in
           omega (arith, r .2, s .1, w, total-lines rest, length-drop (p .base) u, pl .base-le)
@@ -87,7 +87,7 @@ module _ {u lines : List ℕ} {m k : ℕ} {p : Plan} (pl : Planned u lines m k p
       go (halts es h) e r = absurd r
       go (reads es z) e r =
           let rest : List ℕ = drop (p .base) u in
-          let s = read-sizes maxLevels (stateFrom lines (p .i)) (take (p .count) (linesOf rest)) es z e in
+          let s = read-sizes bargeLine (stateFrom lines (p .i)) (take (p .count) (linesOf rest)) es z e in
           let n : p .new - p .base ≡ total (take (p .count) (linesOf rest)) = omega (arith, r .2, s .1) in
           (omega (arith, r .2), ap (λ (n : ℕ). linesOf (take n rest)) n ∙ first-lines rest (p .count))
 

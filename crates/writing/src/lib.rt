@@ -80,6 +80,7 @@ pub fn write_records(
     let index = spelling::sign_index();
     let signs = spelling::sign_table();
     let keywords = spelling::keyword_table();
+    let limits = refusals::barge_limits();
     let base = p.base;
     let end = p.new;
     let z = rereading::rewrite_lines(
@@ -94,6 +95,7 @@ pub fn write_records(
         tokens,
         p.i,
         p.first,
+        limits.line,
         &mut widths,
         s,
     );

@@ -6,13 +6,15 @@ use mathlib.Core.List.{List}
 use native.Mathlib.Omega.{arith}
 use lib.ListN.{take}
 use Rattle.rules.specs.Failure.{failure, badIndent}
+use Rattle.rules.specs.Limits.{LineLimits}
 use Rattle.rules.specs.Records.{widthWords}
 use Rattle.rules.specs.Line.{State, levels, failed, overLimit, indentSize, cutsFrom, levelsOf}
 use Rattle.records.specs.States.{stateOf}
+use Rattle.refusals.specs.Limits.{lineLimitsOf}
 use Rattle.line.specs.States.{leading, Within}
 use Rattle.line.specs.LineCuts.{lineCutsOf}
 use Rattle.line.specs.declared.Lead.{Lead}
-use Rattle.line.proofs.Whole.{read-unequal, read-deep, levels-known}
+use Rattle.line.proofs.Whole.{read-unequal, read-beyond, levels-known}
 use Rattle.checking.proofs.LineReplies.{agreed-line, halted-line, agrees-within}
 use borrow.Author.Needs.{needs}
 use Rattle.checking.proofs.line_agrees.Statement.{statement}
@@ -26,6 +28,9 @@ module _ (s : tie.Start) where
   abbrev state : State
   state = stateOf (s .args .s) (s .args .widths .now)
 
+  abbrev lim : LineLimits
+  lim = lineLimitsOf (s .args .limits)
+
 -- The levels are compared.
 abbrev start : tie.After-levels-of → tie.Start
 start v = v .before .before .before .before .before .before
@@ -38,8 +43,8 @@ module _ (k : tie.After-known-told) where
   abbrev lead : Lead
   lead = k .before .lead .given .0 .0
 
-  levels-are : levelsOf 16 (state (start compared)) (line (start compared)) ≡ levels (leading lead) (take (lead .levels) (compared .levels-of .last .1 .1 .1 .0))
-  levels-are = levels-known (state (start compared)) (line (start compared)) _ lead _ (compared .levels-of .ensures .0) (k .before .lead .given .1)
+  levels-are : levelsOf (lim (start compared)) (state (start compared)) (line (start compared)) ≡ levels (leading lead) (take (lead .levels) (compared .levels-of .last .1 .1 .1 .1 .0))
+  levels-are = levels-known (lim (start compared)) (state (start compared)) (line (start compared)) _ lead _ (compared .levels-of .ensures .0) (k .before .lead .given .1)
 
   within : (lead .levels ≤ widthWords) × (lead .closes ≤ widthWords)
   within = subst Within (k .before .lead .given .1) (compared .levels-of .ensures .1 .0)
@@ -52,7 +57,7 @@ levels-of-requires c κs =
     let r = c .before in
     let s = r .before .before .before .before in
     let q = s .pre .1 .1 .1 .1 .1 in
-    ((omega (arith, q .0 .0), q .1 .0, q .1 .1), r .leading-spaces .ensures)
+    ((omega (arith, q .0 .0), q .1 .0, q .1 .1, q .1 .2), r .leading-spaces .ensures)
 
 enum-known-lead : tie.Need-enum-known-lead
 enum-known-lead c = search needs
@@ -76,7 +81,7 @@ returns c =
     let k = c .before in
     let s = start (compared k) in
     let a = s .args in (
-      agreed-line (state s) (line s) (lead k) _ (a .position) (a .number) (a .k) (a .tokens .now) _ (levels-are k) (c .tokens-agree .ensures),
+      agreed-line (lim s) (state s) (line s) (lead k) _ (a .position) (a .number) (a .k) (a .tokens .now) _ (levels-are k) (c .tokens-agree .ensures),
       agrees-within (lead k) _ (lineCutsOf (a .s .depth) (cutsFrom 0 0 (line s))) _ (c .tokens-agree .ensures) (within k .0),
     )
 
@@ -87,7 +92,7 @@ returns-2 : tie.Need-returns-2
 returns-2 c =
     let v = c .before .before .before .before in
     let s = start v in
-    (halted-line (state s) (line s) (failed (failure badIndent 0 0 (indentSize (line s)))) _ (read-unequal (state s) (line s) _ _ (v .levels-of .ensures .0) (c .enum-told .given .1)), tt)
+    (halted-line (lim s) (state s) (line s) (failed (failure badIndent 0 0 (indentSize (line s)))) _ (read-unequal (lim s) (state s) (line s) _ _ (v .levels-of .ensures .0) (c .enum-told .given .1)), tt)
 
 same-length-3 : tie.Need-same-length-3
 same-length-3 c = search needs
@@ -96,7 +101,7 @@ returns-3 : tie.Need-returns-3
 returns-3 c =
     let v = c .before .before .before .before in
     let s = start v in
-    (halted-line (state s) (line s) overLimit _ (read-deep (state s) (line s) _ _ (v .levels-of .ensures .0) (c .enum-told2 .given .1)), tt)
+    (halted-line (lim s) (state s) (line s) (overLimit (c .enum-told2 .given .0 .0)) _ (read-beyond (lim s) (state s) (line s) _ _ (c .enum-told2 .given .0 .0) (v .levels-of .ensures .0) (c .enum-told2 .given .1)), tt)
 
 pub line-agrees-spec : {M : Type 1} → statement M
 line-agrees-spec =

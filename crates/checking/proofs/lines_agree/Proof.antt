@@ -8,8 +8,10 @@ use native.Mathlib.Omega.{arith}
 use borrow.Author.Needs.{needs}
 use borrow.Author.Tests.{not-true, not-false}
 use lib.ListN.{length, take, drop, length-drop}
+use Rattle.rules.specs.Limits.{LineLimits}
 use Rattle.rules.specs.Reading.{notLF, lineAt, sizeAt}
 use Rattle.rules.proofs.ListLaws.{run-le}
+use Rattle.refusals.specs.Limits.{lineLimitsOf}
 use Rattle.records.specs.declared.State.{State}
 use Rattle.lines.proofs.Lines.{small, size-inside, line-inside, next-start, slice-is}
 use Rattle.checking.specs.declared.SameLine.the-variants.{Agrees}
@@ -18,10 +20,10 @@ use Rattle.checking.proofs.lines_agree.Statement.{statement}
 use Rattle.checking.proofs.lines_agree.Tie as tie
 
 abbrev Inv-loop : tie.InvT-loop
-Inv-loop class reach index signs keywords text lines tokens count total widths₀ p₀ m₀ k₀ s₀ widths p m k s = AgreesTo text lines tokens count total widths p m k s
+Inv-loop class reach index signs keywords text lines tokens count total limits widths₀ p₀ m₀ k₀ s₀ widths p m k s = AgreesTo (lineLimitsOf limits) text lines tokens count total widths p m k s
 
 abbrev μ-loop : tie.MeasureT-loop
-μ-loop class reach index signs keywords text lines tokens count total widths₀ p₀ m₀ k₀ s₀ widths p m k s = length text - p
+μ-loop class reach index signs keywords text lines tokens count total limits widths₀ p₀ m₀ k₀ s₀ widths p m k s = length text - p
 
 -- The loop, with what the function was called with.
 module _ (l : tie.At-loop Inv-loop μ-loop) where
@@ -31,8 +33,11 @@ module _ (l : tie.At-loop Inv-loop μ-loop) where
   abbrev text : List ℕ
   text = start .args .text .now
 
+  abbrev lim : LineLimits
+  lim = lineLimitsOf (start .args .limits)
+
   abbrev Agreed : List ℕ → ℕ → ℕ → ℕ → State → Type 0
-  Agreed = AgreesTo text (start .args .lines .now) (start .args .tokens .now) (start .args .count) (start .args .total)
+  Agreed = AgreesTo lim text (start .args .lines .now) (start .args .tokens .now) (start .args .count) (start .args .total)
 
   abbrev so-far : Agreed (l .loop .widths) (l .loop .p) (l .loop .m) (l .loop .k) (l .loop .s)
   so-far = l .loop .inv
@@ -40,9 +45,12 @@ module _ (l : tie.At-loop Inv-loop μ-loop) where
   few-bytes : length text ≤ 1_048_576
   few-bytes = start .pre .1 .1 .1 .1 .1 .0 .0
 
+  fit : lim .levels ≤ 16
+  fit = start .pre .1 .1 .1 .1 .1 .0 .2
+
   far : (l .loop .p ≤ 1_048_576) × (l .loop .m ≤ 1_048_576) × (l .loop .k + l .loop .s .levels ≤ 2_097_152) × (l .loop .s .depth ≤ 4_194_304)
   far =
-      let b = small (so-far .pass) few-bytes in
+      let b = small (so-far .pass) fit few-bytes in
       (omega (arith, so-far .pass .inside, few-bytes), omega (arith, b .0, so-far .pass .inside, few-bytes), omega (arith, b .1, so-far .pass .inside, few-bytes), b .2)
 
   same-widths : length (l .loop .widths) ≡ length (start .args .widths .now)
@@ -74,10 +82,10 @@ module _ (n : tie.After-line-agrees Inv-loop μ-loop) where
   at-line = here ended
 
   abbrev widths-now : List ℕ
-  widths-now = n .line-agrees .last .1 .1 .1 .1 .1 .1 .1 .1 .1 .1 .0
+  widths-now = n .line-agrees .last .1 .1 .1 .1 .1 .1 .1 .1 .1 .1 .1 .0
 
   kept-wide : length widths-now ≡ length (at-line .loop .widths)
-  kept-wide = n .line-agrees .kept .1 .1 .1 .1 .1 .1 .1 .1 .1 .1 .0
+  kept-wide = n .line-agrees .kept .1 .1 .1 .1 .1 .1 .1 .1 .1 .1 .1 .0
 
   next : (i : ℕ) (s : State) → n .line-agrees .result ≡ Agrees i s → (q : ℕ) → q ≡ at-line .loop .p + sizeAt (text at-line) (at-line .loop .p)
       → Agreed at-line widths-now q (at-line .loop .m + 1) (at-line .loop .k + i) s
@@ -94,7 +102,7 @@ loop-holds : tie.Need-loop-holds Inv-loop μ-loop
 loop-holds c =
     let s = c .before .before .before .before in
     let q = s .pre .1 .1 .1 .1 .1 in
-    agrees-start (s .args .text .now) (s .args .lines .now) (s .args .tokens .now) (s .args .count) (s .args .total) (q .1 .0) (q .1 .1) (s .args .widths .now) (q .0 .1)
+    agrees-start (lineLimitsOf (s .args .limits)) (s .args .text .now) (s .args .lines .now) (s .args .tokens .now) (s .args .count) (s .args .total) (q .1 .0) (q .1 .1) (s .args .widths .now) (q .0 .1)
 
 cast-same-line : tie.Need-cast-same-line Inv-loop μ-loop
 cast-same-line c = omega (arith, far (c .before))
@@ -140,7 +148,7 @@ line-agrees-requires c κs =
     let l = here e in
     let p = start l .pre in
     let v = so-far l .pass in
-    (p .0, (p .1 .0, (p .1 .1 .0, (p .1 .1 .1 .0, (p .1 .1 .1 .1 .0, ((omega (arith, ap length (line-is e), line-inside v (more e), few-bytes l), (far l .3, omega (arith, far l))), (v .wide, v .few)))))))
+    (p .0, (p .1 .0, (p .1 .1 .0, (p .1 .1 .1 .0, (p .1 .1 .1 .1 .0, ((omega (arith, ap length (line-is e), line-inside v (more e), few-bytes l), (far l .3, omega (arith, far l))), (v .wide, v .few, fit l)))))))
 
 enum-known-n : tie.Need-enum-known-n Inv-loop μ-loop
 enum-known-n c = search needs
@@ -149,7 +157,7 @@ add-k : tie.Need-add-k Inv-loop μ-loop
 add-k c =
     let l = at-line (agreed-at c) in
     let v = next (agreed-at c) _ _ (c .before .n .given .1) _ refl .pass in
-    omega (arith, small v (few-bytes l) .1, v .inside, few-bytes l)
+    omega (arith, small v (fit l) (few-bytes l) .1, v .inside, few-bytes l)
 
 add-m : tie.Need-add-m Inv-loop μ-loop
 add-m c = omega (arith, far (at-line (agreed-at c)))

@@ -3,6 +3,7 @@
 use mathlib.Core.Path.{_≡_, refl, sym, ap, _∙_}
 use native.Mathlib.Omega.{arith}
 use borrow.Author.Needs.{needs}
+use Rattle.refusals.specs.Limits.{lineLimitsOf}
 use Rattle.line.proofs.Levels.{compared-deep, compared-opens, compared-closes, compared-unequal}
 use Rattle.line.proofs.compare_levels.Statement.{statement}
 use Rattle.line.proofs.compare_levels.Tie as tie
@@ -15,9 +16,9 @@ same-length c = search needs
 
 returns : tie.Need-returns
 returns c =
-    let b = c .before .before in
+    let b = c .before .before .before in
     let a = b .before .before .before .args in
-    let e = compared-deep (a .widths .now) (a .levels) (a .width) (omega arith) (omega arith) (omega (arith, b .innermost .ensures)) (omega arith) in
+    let e = compared-deep (lineLimitsOf (a .limits)) (a .widths .now) (a .levels) (a .width) (omega arith) (omega arith) (omega arith) (omega (arith, b .innermost .ensures)) (c .if2 .taken) in
     (e .0, (tt, e .1))
 
 mul-widths : tie.Need-mul-widths
@@ -26,17 +27,17 @@ mul-widths c = search needs
 slice-write-widths : tie.Need-slice-write-widths
 slice-write-widths c = search needs
 
-add-t10 : tie.Need-add-t10
-add-t10 c = search needs
+add-t11 : tie.Need-add-t11
+add-t11 c = search needs
 
 same-length-2 : tie.Need-same-length-2
 same-length-2 c = search needs
 
 returns-2 : tie.Need-returns-2
 returns-2 c =
-    let b = c .before .before in
+    let b = c .before .before .before in
     let a = b .before .before .before .args in
-    let e = compared-opens (a .widths .now) (a .levels) (a .width) (omega arith) (omega arith) (omega (arith, b .innermost .ensures)) (λ e. omega arith) in
+    let e = compared-opens (lineLimitsOf (a .limits)) (a .widths .now) (a .levels) (a .width) (omega arith) (omega arith) (omega arith) (omega (arith, b .innermost .ensures)) (c .if2 .left) in
     (e .0, ((omega arith, omega arith), e .1))
 
 levels-left-requires : tie.Need-levels-left-requires
@@ -53,11 +54,11 @@ returns-3 c =
     let l = c .before .before .before in
     let b = l .before .before .before in
     let a = b .before .before .before .args in
-    let e = compared-unequal (a .widths .now) (a .levels) (a .width) (omega arith) (omega arith) (omega (arith, b .innermost .ensures)) (l .levels-left .result) (l .levels-left .ensures .0) (l .levels-left .ensures .1) (λ e. c .if3 .taken (c .before .innermost2 .ensures ∙ e)) in
+    let e = compared-unequal (lineLimitsOf (a .limits)) (a .widths .now) (a .levels) (a .width) (omega arith) (omega arith) (omega arith) (omega (arith, b .innermost .ensures)) (l .levels-left .result) (l .levels-left .ensures .0) (l .levels-left .ensures .1) (λ e. c .if3 .taken (c .before .innermost2 .ensures ∙ e)) in
     (e .0, (tt, e .1))
 
-sub-t17 : tie.Need-sub-t17
-sub-t17 c = search needs
+sub-t18 : tie.Need-sub-t18
+sub-t18 c = search needs
 
 same-length-4 : tie.Need-same-length-4
 same-length-4 c = search needs
@@ -67,7 +68,7 @@ returns-4 c =
     let l = c .before .before .before in
     let b = l .before .before .before in
     let a = b .before .before .before .args in
-    let e = compared-closes (a .widths .now) (a .levels) (a .width) (omega arith) (omega arith) (omega (arith, b .innermost .ensures)) (l .levels-left .result) (l .levels-left .ensures .0) (l .levels-left .ensures .1) (sym (c .before .innermost2 .ensures) ∙ c .if3 .left) in
+    let e = compared-closes (lineLimitsOf (a .limits)) (a .widths .now) (a .levels) (a .width) (omega arith) (omega arith) (omega arith) (omega (arith, b .innermost .ensures)) (l .levels-left .result) (l .levels-left .ensures .0) (l .levels-left .ensures .1) (sym (c .before .innermost2 .ensures) ∙ c .if3 .left) in
     (e .0, ((omega arith, omega arith), e .1))
 
 pub compare-levels-spec : {M : Type 1} → statement M
@@ -79,13 +80,13 @@ compare-levels-spec =
     returns
     mul-widths
     slice-write-widths
-    add-t10
+    add-t11
     same-length-2
     returns-2
     levels-left-requires
     innermost-requires-2
     same-length-3
     returns-3
-    sub-t17
+    sub-t18
     same-length-4
     returns-4)

@@ -6,6 +6,7 @@ use native.Mathlib.Omega.{arith}
 use lib.ListN.{take}
 use borrow.Author.Needs.{needs}
 use Rattle.rules.specs.Line.{Levels, isCompared, compared, levelsOf}
+use Rattle.refusals.specs.Limits.{lineLimitsOf}
 use Rattle.line.specs.States.{widthsAfter}
 use Rattle.line.proofs.Levels.{front-stored}
 use Rattle.line.proofs.levels_of.Statement.{statement}
@@ -31,7 +32,7 @@ returns c =
     let a = d .before .before .before .before .args in
     let e = b .compare-levels .ensures in
     let taken = sym (d .before .is-compared .ensures) ∙ d .if1 .taken in
-    let is = ap (λ (w : ℕ). compared 16 w (take (a .s .levels) (a .widths .now))) (b .before .width-behind .ensures) in
+    let is = ap (λ (w : ℕ). compared (lineLimitsOf (a .limits)) w (take (a .s .levels) (a .widths .now))) (b .before .width-behind .ensures) in
     (rw taken (e .0 ∙ is), (e .1 .0, rw taken (e .1 .1 ∙ ap (λ (x : Levels). widthsAfter x (a .widths .now)) is)))
 
 returns-2 : tie.Need-returns-2

@@ -7,15 +7,17 @@ use native.Mathlib.Omega.{arith}
 use borrow.Author.Needs.{needs}
 use lib.ListN.{length, take}
 use Rattle.rules.specs.Failure.{failure, badIndent}
+use Rattle.rules.specs.Limits.{LineLimits}
 use Rattle.rules.specs.Line.{State, Token, Levels, levels, LineReply, lineHalts, Halt, failed, cutsFrom, levelsOf, readLine}
 use Rattle.rules.specs.Records.{widthWords, tokenSize, tokenWords}
 use Rattle.laws.specs.Puts.{putIf}
 use Rattle.laws.proofs.Puts.{putIf-none}
 use Rattle.records.specs.States.{stateOf}
+use Rattle.refusals.specs.Limits.{lineLimitsOf}
 use Rattle.line.specs.States.{leading, Within}
 use Rattle.line.specs.LineCuts.{lineCutsOf, tokensIn, counted, countedHalts}
 use Rattle.line.specs.declared.Lead.{Lead}
-use Rattle.line.proofs.Whole.{read-unequal, read-deep, levels-known, line-counted, line-tokens, line-room, levels-within}
+use Rattle.line.proofs.Whole.{read-unequal, read-beyond, levels-known, line-counted, line-tokens, line-room, levels-within}
 use Rattle.line.proofs.read_line.Statement.{statement}
 use Rattle.line.proofs.read_line.Tie as tie
 
@@ -27,9 +29,12 @@ module _ (s : tie.Start) where
   abbrev state : State
   state = stateOf (s .args .s) (s .args .widths .now)
 
+  abbrev lim : LineLimits
+  lim = lineLimitsOf (s .args .limits)
+
   -- a line that does not read writes no tokens
-  no-tokens : (h : Halt) → readLine 16 state line ≡ lineHalts h
-      → s .args .tokens .now ≡ putIf (s .args .write) (s .args .tokens .now) (tokenSize * s .args .k) (tokenWords (s .args .position) (s .args .number) (tokensIn (readLine 16 state line)))
+  no-tokens : (h : Halt) → readLine lim state line ≡ lineHalts h
+      → s .args .tokens .now ≡ putIf (s .args .write) (s .args .tokens .now) (tokenSize * s .args .k) (tokenWords (s .args .position) (s .args .number) (tokensIn (readLine lim state line)))
   unfolding tokenWords
   no-tokens h e = rw e (sym (putIf-none (s .args .write) (s .args .tokens .now) (tokenSize * s .args .k)))
 
@@ -52,8 +57,8 @@ module _ (k : tie.After-known-told) where
   abbrev lead : Lead
   lead = k .before .lead .given .0 .0
 
-  levels-are : levelsOf 16 (state (start compared)) (line (start compared)) ≡ levels (leading lead) (take (lead .levels) (compared .levels-of .last .1 .1 .1 .0))
-  levels-are = levels-known (state (start compared)) (line (start compared)) _ lead _ (compared .levels-of .ensures .0) (k .before .lead .given .1)
+  levels-are : levelsOf (lim (start compared)) (state (start compared)) (line (start compared)) ≡ levels (leading lead) (take (lead .levels) (compared .levels-of .last .1 .1 .1 .1 .0))
+  levels-are = levels-known (lim (start compared)) (state (start compared)) (line (start compared)) _ lead _ (compared .levels-of .ensures .0) (k .before .lead .given .1)
 
   within : (lead .levels ≤ widthWords) × (lead .closes ≤ widthWords)
   within = subst Within (k .before .lead .given .1) (compared .levels-of .ensures .1 .0)
@@ -61,7 +66,7 @@ module _ (k : tie.After-known-told) where
 levels-of-requires : tie.Need-levels-of-requires
 levels-of-requires c κs =
     let q = called (c .before) .pre .1 .1 .1 .1 .1 in
-    ((omega (arith, q .0 .0), q .1 .0 .0, q .1 .0 .1), c .before .leading-spaces .ensures)
+    ((omega (arith, q .0 .0), q .1 .0 .0, q .1 .0 .1, q .1 .0 .2), c .before .leading-spaces .ensures)
 
 enum-known-lead : tie.Need-enum-known-lead
 enum-known-lead c = search needs
@@ -85,7 +90,7 @@ cut-after-requires c κs =
                 q .0,
                 (
                   (within k .1, compared k .before .before .leading-spaces .ensures),
-                  λ w. line-room (state s) (line s) (lead k) _ (levels-are k) (s .args .k) (length (s .args .tokens .now)) (q .1 .1 w),
+                  λ w. line-room (lim s) (state s) (line s) (lead k) _ (levels-are k) (s .args .k) (length (s .args .tokens .now)) (q .1 .1 w),
                 ),
               ),
             ),
@@ -100,8 +105,8 @@ enum-told c = search needs
 leading-indent-bytes-requires : tie.Need-leading-indent-bytes-requires
 leading-indent-bytes-requires c κs = search needs
 
-enum-told-2 : tie.Need-enum-told-2
-enum-told-2 c = search needs
+enum-known-refusal : tie.Need-enum-known-refusal
+enum-known-refusal c = search needs
 
 same-length : tie.Need-same-length
 same-length c = search needs
@@ -115,12 +120,12 @@ returns c =
     let k = x .before .before in
     let s = start (compared k) in
     let a = s .args in (
-      line-counted (state s) (line s) (lead k) _ (levels-are k) _ (x .cut-after .ensures .0),
+      line-counted (lim s) (state s) (line s) (lead k) _ (levels-are k) _ (x .cut-after .ensures .0),
       (
         levels-within (lead k) (lineCutsOf (a .s .depth) (cutsFrom 0 0 (line s))) _ (x .cut-after .ensures .0) (within k .0),
         (
           compared k .levels-of .ensures .1 .1,
-          x .cut-after .ensures .1 ∙ ap (λ (ts : List Token). putIf (a .write) (a .tokens .now) (tokenSize * a .k) (tokenWords (a .position) (a .number) ts)) (line-tokens (state s) (line s) (lead k) _ (levels-are k)),
+          x .cut-after .ensures .1 ∙ ap (λ (ts : List Token). putIf (a .write) (a .tokens .now) (tokenSize * a .k) (tokenWords (a .position) (a .number) ts)) (line-tokens (lim s) (state s) (line s) (lead k) _ (levels-are k)),
         ),
       ),
     )
@@ -132,7 +137,7 @@ returns-2 : tie.Need-returns-2
 returns-2 c =
     let v = c .before .before .before .before .before in
     let s = start v in
-    let e = read-unequal (state s) (line s) _ _ (v .levels-of .ensures .0) (c .before .enum-told .given .1) in
+    let e = read-unequal (lim s) (state s) (line s) _ _ (v .levels-of .ensures .0) (c .before .enum-told .given .1) in
     (ap (λ (n : ℕ). countedHalts (failed (failure badIndent 0 0 n))) (c .leading-indent-bytes .ensures) ∙ ap counted (sym e), (tt, (v .levels-of .ensures .1 .1, no-tokens s _ e)))
 
 same-length-4 : tie.Need-same-length-4
@@ -140,9 +145,9 @@ same-length-4 c = search needs
 
 returns-3 : tie.Need-returns-3
 returns-3 c =
-    let v = c .before .before .before .before in
+    let v = c .before .before .before .before .before in
     let s = start v in
-    let e = read-deep (state s) (line s) _ _ (v .levels-of .ensures .0) (c .enum-told2 .given .1) in
+    let e = read-beyond (lim s) (state s) (line s) _ _ (c .before .refusal .given .0 .0) (v .levels-of .ensures .0) (c .before .refusal .given .1) in
     (ap counted (sym e), (tt, (v .levels-of .ensures .1 .1, no-tokens s _ e)))
 
 pub read-line-spec : {M : Type 1} → statement M
@@ -155,7 +160,7 @@ read-line-spec =
     cut-after-requires
     enum-told
     leading-indent-bytes-requires
-    enum-told-2
+    enum-known-refusal
     same-length
     same-length-2
     returns

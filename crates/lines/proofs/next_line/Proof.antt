@@ -1,22 +1,25 @@
 -- `lines::next_line` meets its contract.
 -- Assumes nothing.
 use Prim.Native.Nat.{ℕ, _+_, _-_, _*_, _≤_, _<_}
-use mathlib.Core.Path.{_≡_, sym, ap, subst, _∙_}
+use mathlib.Core.Path.{_≡_, refl, sym, ap, subst, _∙_}
 use mathlib.Core.List.{List}
 use native.Mathlib.Omega.{arith}
 use lib.ListN.{length, take, drop, length-drop, length-take}
 use Rattle.rules.specs.Lists.{run}
+use Rattle.rules.specs.Limits.{LineLimits}
 use Rattle.rules.specs.Line as rules-line
 use Rattle.rules.specs.Line.{LineReply, lineHalts, failed, readLine}
 use Rattle.rules.specs.Reading.{notLF, lineAt}
-use Rattle.rules.specs.Records.{lineSize, tokenSize, lineRecord, tokenWords}
+use Rattle.rules.specs.Records.{haltRefusal, lineSize, tokenSize, lineRecord, tokenWords}
 use Rattle.rules.proofs.ListLaws.{run-le}
 use Rattle.rules.proofs.FailureLaws.{failure-inside}
 use Rattle.laws.specs.Puts.{putIf}
+use Rattle.refusals.specs.Limits.{lineLimitsOf}
+use Rattle.refusals.specs.declared.Unread.the-variants.{Fails}
 use Rattle.cut.specs.Cuts.{failureOf}
 use Rattle.records.specs.States.{stateOf}
 use Rattle.line.specs.LineCuts.{tokensIn, RoomIn, LevelsWithin}
-use Rattle.lines.proofs.Lines.{line-read, line-fails, line-deep, next-start, slice-is}
+use Rattle.lines.proofs.Lines.{line-read, line-fails, line-over, next-start, slice-is}
 use borrow.Author.Needs.{needs}
 use Rattle.lines.proofs.next_line.Statement.{statement}
 use Rattle.lines.proofs.next_line.Tie as tie
@@ -31,6 +34,9 @@ module _ (s : tie.Start) where
 
   abbrev z : rules-line.State
   z = stateOf (s .args .s) (s .args .widths .now)
+
+  abbrev lim : LineLimits
+  lim = lineLimitsOf (s .args .limits)
 
   abbrev line-here : List ℕ
   line-here = lineAt text at
@@ -69,14 +75,14 @@ module _ (r : tie.After-read-line) where
   here = start ended
 
   abbrev reply : LineReply
-  reply = readLine 16 (z here) (line ended)
+  reply = readLine (lim here) (z here) (line ended)
 
-  reply-is : readLine 16 (z here) (line-here here) ≡ reply
-  reply-is = ap (readLine 16 (z here)) (sym (line-is ended))
+  reply-is : readLine (lim here) (z here) (line-here here) ≡ reply
+  reply-is = ap (readLine (lim here) (z here)) (sym (line-is ended))
 
   written : let a = here .args in
       (ended .before .before .before .put-line .last .0 ≡ putIf (a .write) (a .lines .now) (lineSize * a .m) (lineRecord (a .base + a .at) (a .k) (z here)))
-      × (r .read-line .last .1 .1 .1 .1 .1 .1 .0 ≡ putIf (a .write) (a .tokens .now) (tokenSize * a .k) (tokenWords (a .base + a .at) (a .m + 1) (tokensIn (readLine 16 (z here) (line-here here)))))
+      × (r .read-line .last .1 .1 .1 .1 .1 .1 .0 ≡ putIf (a .write) (a .tokens .now) (tokenSize * a .k) (tokenWords (a .base + a .at) (a .m + 1) (tokensIn (readLine (lim here) (z here) (line-here here)))))
   written =
       let a = here .args in
       (ended .before .before .before .put-line .ensures, r .read-line .ensures .1 .1 .1 ∙ ap (λ (y : LineReply). putIf (a .write) (a .tokens .now) (tokenSize * a .k) (tokenWords (a .base + a .at) (a .m + 1) (tokensIn y))) (sym reply-is))
@@ -92,8 +98,8 @@ module _ (c : tie.After-known-told2) where
   fails-as : reply fails-at ≡ lineHalts (failed (failureOf (c .before .f .given .0 .0)))
   fails-as = line-fails _ _ (reply fails-at) (fails-at .read-line .ensures .0) _ (c .before .f .given .1)
 
-abbrev deep-at : tie.After-enum-told → tie.After-read-line
-deep-at c = c .before .before .before .before .before .before
+abbrev over-at : tie.After-known-told3 → tie.After-read-line
+over-at c = c .before .before .before .before .before .before .before
 
 add-position : tie.Need-add-position
 add-position c = search needs
@@ -149,7 +155,7 @@ read-line-requires c κs =
               p .1 .1 .1 .1 .0,
               (
                 (omega (arith, line-inside e, few-bytes s), (q .0 .0, p .1 .1 .1 .1 .1 .0 .1 .1 .1)),
-                ((q .0 .1 .1, q .0 .1 .0), λ w. subst (λ (l : List ℕ). RoomIn (readLine 16 (z s) l) (s .args .k) (length (s .args .tokens .now))) (sym (line-is e)) (q .1 w .1)),
+                ((q .0 .1 .1, q .0 .1 .0, q .0 .1 .2), λ w. subst (λ (l : List ℕ). RoomIn (readLine (lim s) (z s) l) (s .args .k) (length (s .args .tokens .now))) (sym (line-is e)) (q .1 w .1)),
               ),
             ),
           ),
@@ -173,10 +179,13 @@ failure-record-requires : tie.Need-failure-record-requires
 failure-record-requires c κs =
     let e = ended (fails-at c) in
     let s = start e in
-    (omega (arith, failure-inside 16 (z s) (line e) _ (fails-as c), line-inside e, few-bytes s), omega (arith, few-lines s))
+    (omega (arith, failure-inside (lim s) (z s) (line e) _ (fails-as c), line-inside e, few-bytes s), omega (arith, few-lines s))
 
-enum-told : tie.Need-enum-told
-enum-told c = search needs
+enum-known-refusal : tie.Need-enum-known-refusal
+enum-known-refusal c = search needs
+
+add-t45 : tie.Need-add-t45
+add-t45 c = omega (arith, few-lines (here (over-at c)))
 
 same-length : tie.Need-same-length
 same-length c = search needs
@@ -206,9 +215,10 @@ same-length-6 : tie.Need-same-length-6
 same-length-6 c = search needs
 
 returns-2 : tie.Need-returns-2
+unfolding haltRefusal
 returns-2 c =
     let r = fails-at (c .before) in
-    ((_, reply-is r ∙ fails-as (c .before), c .failure-record .ensures), written r)
+    ((_, reply-is r ∙ fails-as (c .before), ap Fails (c .failure-record .ensures)), written r)
 
 same-length-7 : tie.Need-same-length-7
 same-length-7 c = search needs
@@ -220,9 +230,10 @@ same-length-9 : tie.Need-same-length-9
 same-length-9 c = search needs
 
 returns-3 : tie.Need-returns-3
+unfolding haltRefusal
 returns-3 c =
-    let r = deep-at c in
-    (reply-is r ∙ line-deep _ _ (reply r) (r .read-line .ensures .0) (c .enum-told .given .1), written r)
+    let r = over-at c in
+    ((_, reply-is r ∙ line-over _ _ (reply r) (r .read-line .ensures .0) _ (c .before .refusal .given .1), refl), written r)
 
 pub next-line-spec : {M : Type 1} → statement M
 next-line-spec =
@@ -245,7 +256,8 @@ next-line-spec =
     enum-known-f
     add-failure-record
     failure-record-requires
-    enum-told
+    enum-known-refusal
+    add-t45
     same-length
     same-length-2
     same-length-3

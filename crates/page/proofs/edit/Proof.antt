@@ -1,12 +1,16 @@
 -- `page::edit` meets its contract.
 -- Assumes nothing.
-use mathlib.Core.Path.{_≡_}
+use Prim.Native.Nat.{_≤_}
+use mathlib.Core.Path.{_≡_, ap}
 use mathlib.Core.Bool.{true, false}
+use native.Mathlib.Omega.{arith}
 use lib.ListN.{length}
 use borrow.Author.Tests.{not-true, not-false}
+use Rattle.rules.specs.Limits.{Limits, maxBytes}
 use Rattle.rules.specs.Records.{header}
 use Rattle.rules.specs.Page.{Lent, fits, pageText}
 use Rattle.rules.specs.StopRule.{Edit, edited}
+use Rattle.refusals.proofs.Barge.{barge-fits}
 use Rattle.planning.specs.Plans.{editOf}
 use Rattle.page.specs.Answers.{lent}
 use Rattle.header.proofs.Fitting.{fits-by}
@@ -47,6 +51,9 @@ returns-3 c = past-edit _ _ (fit (c .before .before)) (c .if3 .taken)
 edited-length-requires : tie.Need-edited-length-requires
 edited-length-requires c κs = search needs
 
+barge-limits-requires : tie.Need-barge-limits-requires
+barge-limits-requires c κs = search needs
+
 -- the range is proper
 abbrev start-of : tie.Else3 → tie.Start
 start-of c = start (c .before .before .before)
@@ -55,25 +62,35 @@ ranged : (c : tie.Else3) → Ranged (lent-at (start-of c)) (edit-at (start-of c)
 ranged c = record { fit = fit (c .before .before); order = c .before .if2 .left; inside = c .if3 .left }
 
 returns-4 : tie.Need-returns-4
-returns-4 c = long-edit _ _ (ranged (c .before .before)) _ (c .before .edited-length .ensures) (c .if4 .taken)
+returns-4 c =
+    let b = c .before .before in
+    let e = b .barge-limits .ensures in
+    long-edit _ _ (ranged (b .before .before)) _ _ _ (ap (λ (l : Limits). l .bytes) e) (ap (λ (l : Limits). l .tooLongNumber) e) (b .before .edited-length .ensures) (c .if4 .taken)
+
+-- the edited text is no longer than the barge reads
+small : (c : tie.Else4) → c .before .before .before .edited-length .result ≤ maxBytes
+small c = omega (arith, barge-fits (c .before .before .barge-limits .result) (c .before .before .barge-limits .ensures) .0, c .if4 .left)
 
 -- the length is that of the edited text
-size-of : (c : tie.Else4) → let s = start-of (c .before .before) in c .before .edited-length .result ≡ length (edited (pageText (lent-at s .page)) (edit-at s))
-size-of c = settled _ _ _ (c .before .edited-length .ensures) (size-is _ _ (ranged (c .before .before))) (c .if4 .left)
+abbrev length-at : tie.Else4 → tie.After-edited-length
+length-at c = c .before .before .before
+
+size-of : (c : tie.Else4) → let s = start-of (length-at c .before) in length-at c .edited-length .result ≡ length (edited (pageText (lent-at s .page)) (edit-at s))
+size-of c = settled _ _ _ (length-at c .edited-length .ensures) (size-is _ _ (ranged (length-at c .before))) (small c)
 
 returns-5 : tie.Need-returns-5
-returns-5 c = text-edit _ _ (ranged (c .before .before .before)) (size-of (c .before)) (c .before .if4 .left) (c .if5 .taken)
+returns-5 c = let z = c .before in text-edit _ _ (ranged (length-at z .before)) (size-of z) (small z) (c .if5 .taken)
 
 returns-6 : tie.Need-returns-6
 returns-6 c =
     let z = c .before .before in
-    spare-edit _ _ (ranged (z .before .before)) (size-of z) (z .if4 .left) (c .before .if5 .left) (c .if6 .taken)
+    spare-edit _ _ (ranged (length-at z .before)) (size-of z) (small z) (c .before .if5 .left) (c .if6 .taken)
 
 edit-text-requires : tie.Need-edit-text-requires
 edit-text-requires c κs =
     let z = c .before .before .before .before .before .before in
-    let g = ranged (z .before .before) in
-    (g .fit, ((g .order, (g .inside, size-of z)), (z .if4 .left, (c .before .before .before .before .before .if5 .left, c .before .before .before .before .if6 .left))))
+    let g = ranged (length-at z .before) in
+    (g .fit, ((g .order, (g .inside, size-of z)), (small z, (c .before .before .before .before .before .if5 .left, c .before .before .before .before .if6 .left))))
 
 same-length : tie.Need-same-length
 same-length c = search needs
@@ -99,6 +116,7 @@ edit-spec =
     returns-2
     returns-3
     edited-length-requires
+    barge-limits-requires
     returns-4
     returns-5
     returns-6

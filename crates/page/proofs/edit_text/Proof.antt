@@ -5,10 +5,14 @@ use mathlib.Core.Path.{_≡_, sym, ap, subst, _∙_}
 use mathlib.Core.List.{List}
 use native.Mathlib.Omega.{arith}
 use lib.ListN.{length, take}
+use Rattle.rules.specs.Limits.{Limits, barge}
 use Rattle.rules.specs.Records.{header}
 use Rattle.rules.specs.Page.{Lent, pageText}
 use Rattle.rules.specs.StopRule.{Edit, edited}
 use Rattle.rules.proofs.PageLaws.{fits-true}
+use Rattle.refusals.specs.Unreads.{testOf}
+use Rattle.refusals.specs.declared.TextTest.{TextTest}
+use Rattle.refusals.specs.declared.TextTest.the-variants.{Passes, Refused}
 use Rattle.planning.specs.Plans.{editOf, Planned, PlanIs}
 use Rattle.planning.specs.declared.PlanAnswer.{PlanAnswer}
 use Rattle.page.specs.Answers.{lent}
@@ -60,14 +64,31 @@ edited-at c = held _ _ (spliced c)
 length-at : (c : tie.After-splice) → start c .args .size ≡ length (take (start c .args .size) (spare-at c))
 length-at c = start c .pre .1 .0 .1 .1 ∙ sym (ap length (edited-at c))
 
-slice-reshare-prefix-well-formed-prefix : tie.Need-slice-reshare-prefix-well-formed-prefix
-slice-reshare-prefix-well-formed-prefix c = search needs
+barge-limits-requires : tie.Need-barge-limits-requires
+barge-limits-requires c κs = search needs
 
-slice-aggregate-well-formed-prefix : tie.Need-slice-aggregate-well-formed-prefix
-slice-aggregate-well-formed-prefix c = length-at (c .before .before .before)
+slice-reshare-prefix-test-text : tie.Need-slice-reshare-prefix-test-text
+slice-reshare-prefix-test-text c = search needs
 
-well-formed-prefix-requires : tie.Need-well-formed-prefix-requires
-well-formed-prefix-requires c κs = search needs
+slice-aggregate-test-text : tie.Need-slice-aggregate-test-text
+slice-aggregate-test-text c = length-at (c .before .before .before .before)
+
+test-text-requires : tie.Need-test-text-requires
+test-text-requires c κs = search needs
+
+-- The test of the edited text.
+module _ (x : tie.After-test-text) where
+  abbrev splice-of : tie.After-splice
+  splice-of = x .before .before .before .before .before
+
+  abbrev text-of : List ℕ
+  text-of = take (start splice-of .args .size) (spare-at splice-of)
+
+  test-is : (r : TextTest) → x .test-text .result ≡ r → testOf barge text-of ≡ r
+  test-is r e = ap (λ (l : Limits). testOf l text-of) (sym (x .before .before .barge-limits .ensures)) ∙ sym (x .test-text .ensures) ∙ e
+
+enum-known-u : tie.Need-enum-known-u
+enum-known-u c = search needs
 
 same-length : tie.Need-same-length
 same-length c = search needs
@@ -76,27 +97,36 @@ same-length-2 : tie.Need-same-length-2
 same-length-2 c = search needs
 
 returns : tie.Need-returns
-returns c = form-edit _ _ (spliced (c .before .before .before .before .before)) (c .before .well-formed-prefix .ensures) (c .if1 .taken)
+returns c =
+    let x = c .before .before .before in
+    let u = c .before .u .given .0 .0 in
+    form-edit _ _ (spliced (splice-of x)) u (test-is x (Refused u) (c .before .u .given .1))
+
+enum-told : tie.Need-enum-told
+enum-told c = search needs
 
 slice-reshare-prefix-plan-edit : tie.Need-slice-reshare-prefix-plan-edit
 slice-reshare-prefix-plan-edit c = search needs
 
 slice-aggregate-plan-edit : tie.Need-slice-aggregate-plan-edit
-slice-aggregate-plan-edit c = length-at (c .before .before .before .before .before .before .before .before .before)
+slice-aggregate-plan-edit c = length-at (splice-of (c .before .before .before .before .before .before))
 
 plan-edit-requires : tie.Need-plan-edit-requires
 plan-edit-requires c κs =
-    let x = c .before .before .before .before .before .before .before .before .before in
+    let x = splice-of (c .before .before .before .before .before .before) in
     let p = start x .pre in
     (p .0, ((p .1 .0 .0, (p .1 .0 .1 .0, omega (arith, length-at x, p .1 .1 .0))), edited-at x))
 
 -- What was planned, for a well-formed text.
 
-abbrev formed : tie.After-plan-edit → tie.Else1
+abbrev formed : tie.After-plan-edit → tie.After-enum-told
 formed c = c .before .before .before .before .before
 
 abbrev splice-at : tie.After-plan-edit → tie.After-splice
-splice-at c = formed c .before .before .before .before .before
+splice-at c = splice-of (formed c .before .before)
+
+passed : (c : tie.After-plan-edit) → testOf barge (text-of (formed c .before .before)) ≡ Passes
+passed c = test-is (formed c .before .before) Passes (formed c .enum-told .given .1)
 
 abbrev start-of : tie.After-plan-edit → tie.Start
 start-of c = start (splice-at c)
@@ -106,7 +136,7 @@ planned c e = subst (PlanIs (lent-at (start-of c) .page) (edit-at (start-of c)))
 
 -- a refusal of the plan is one of the edit
 refused : (c : tie.After-plan-edit) {r : PlanAnswer} → c .plan-edit .result ≡ r → RefusedAs (lent-at (start-of c)) (edit-at (start-of c)) (spare-at (splice-at c)) r
-refused c {r} e = refused-edit _ _ (spliced (splice-at c)) (formed c .before .well-formed-prefix .ensures) (formed c .if1 .left) r (planned c e)
+refused c {r} e = refused-edit _ _ (spliced (splice-at c)) (passed c) r (planned c e)
 
 enum-known-p : tie.Need-enum-known-p
 enum-known-p c = search needs
@@ -122,11 +152,8 @@ write-edit-requires c κs =
       ((F .lines, F .tokens), (subst (λ (u : List ℕ). Planned u (s .args .lines .now) (s .args .m) (s .args .k) (m .given .0 .0)) (sym (edited-at (splice-at x))) (v .0), v .1 .0)),
     )
 
-enum-known-f : tie.Need-enum-known-f
-enum-known-f c = search needs
-
-enum-known-number : tie.Need-enum-known-number
-enum-known-number c = search needs
+enum-known-u-2 : tie.Need-enum-known-u-2
+enum-known-u-2 c = search needs
 
 enum-known-least : tie.Need-enum-known-least
 enum-known-least c = search needs
@@ -134,8 +161,8 @@ enum-known-least c = search needs
 enum-known-least-2 : tie.Need-enum-known-least-2
 enum-known-least-2 c = search needs
 
-enum-told : tie.Need-enum-told
-enum-told c = search needs
+enum-told-2 : tie.Need-enum-told-2
+enum-told-2 c = search needs
 
 same-length-3 : tie.Need-same-length-3
 same-length-3 c = search needs
@@ -153,7 +180,7 @@ returns-2 : tie.Need-returns-2
 returns-2 c =
     let w = c .before .before .before .before .before .before .write-edit in
     let x = c .before .before .before .before .before .before .before .before .before .before .before .before .before .before in
-    accept-edit _ _ (spliced (splice-at x)) (formed x .before .well-formed-prefix .ensures) (formed x .if1 .left)
+    accept-edit _ _ (spliced (splice-at x)) (passed x)
     (planned x (c .before .before .before .before .before .before .before .before .before .before .before .before .p .given .1)) (w .ensures .0) (w .ensures .1 .0) (w .ensures .1 .1 .0) (w .ensures .1 .1 .1)
 
 same-length-7 : tie.Need-same-length-7
@@ -169,7 +196,7 @@ same-length-10 : tie.Need-same-length-10
 same-length-10 c = search needs
 
 returns-3 : tie.Need-returns-3
-returns-3 c = refused (c .before .before .before) (c .before .f .given .1)
+returns-3 c = refused (c .before .before .before) (c .before .u2 .given .1)
 
 same-length-11 : tie.Need-same-length-11
 same-length-11 c = search needs
@@ -184,7 +211,7 @@ same-length-14 : tie.Need-same-length-14
 same-length-14 c = search needs
 
 returns-4 : tie.Need-returns-4
-returns-4 c = refused (c .before .before .before) (c .before .number .given .1)
+returns-4 c = refused (c .before .before .before) (c .before .least .given .1)
 
 same-length-15 : tie.Need-same-length-15
 same-length-15 c = search needs
@@ -199,7 +226,7 @@ same-length-18 : tie.Need-same-length-18
 same-length-18 c = search needs
 
 returns-5 : tie.Need-returns-5
-returns-5 c = refused (c .before .before .before) (c .before .least .given .1)
+returns-5 c = refused (c .before .before .before) (c .before .least2 .given .1)
 
 same-length-19 : tie.Need-same-length-19
 same-length-19 c = search needs
@@ -214,44 +241,31 @@ same-length-22 : tie.Need-same-length-22
 same-length-22 c = search needs
 
 returns-6 : tie.Need-returns-6
-returns-6 c = refused (c .before .before .before) (c .before .least2 .given .1)
-
-same-length-23 : tie.Need-same-length-23
-same-length-23 c = search needs
-
-same-length-24 : tie.Need-same-length-24
-same-length-24 c = search needs
-
-same-length-25 : tie.Need-same-length-25
-same-length-25 c = search needs
-
-same-length-26 : tie.Need-same-length-26
-same-length-26 c = search needs
-
-returns-7 : tie.Need-returns-7
-returns-7 c = refused (c .before .before) (c .enum-told .given .1)
+returns-6 c = refused (c .before .before) (c .enum-told2 .given .1)
 
 pub edit-text-spec : {M : Type 1} → statement M
 edit-text-spec =
     tie.close
     (tie.spec
     splice-requires
-    slice-reshare-prefix-well-formed-prefix
-    slice-aggregate-well-formed-prefix
-    well-formed-prefix-requires
+    barge-limits-requires
+    slice-reshare-prefix-test-text
+    slice-aggregate-test-text
+    test-text-requires
+    enum-known-u
     same-length
     same-length-2
     returns
+    enum-told
     slice-reshare-prefix-plan-edit
     slice-aggregate-plan-edit
     plan-edit-requires
     enum-known-p
     write-edit-requires
-    enum-known-f
-    enum-known-number
+    enum-known-u-2
     enum-known-least
     enum-known-least-2
-    enum-told
+    enum-told-2
     same-length-3
     same-length-4
     same-length-5
@@ -276,9 +290,4 @@ edit-text-spec =
     same-length-20
     same-length-21
     same-length-22
-    returns-6
-    same-length-23
-    same-length-24
-    same-length-25
-    same-length-26
-    returns-7)
+    returns-6)

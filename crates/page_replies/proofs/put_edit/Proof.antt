@@ -16,47 +16,29 @@ put-five-requires c κs = search needs
 enum-known-r-2 : tie.Need-enum-known-r-2
 enum-known-r-2 c = search needs
 
-put-two-requires : tie.Need-put-two-requires
-put-two-requires c κs = search needs
+put-unread-requires : tie.Need-put-unread-requires
+put-unread-requires c κs = search needs
 
 enum-known-r-3 : tie.Need-enum-known-r-3
 enum-known-r-3 c = search needs
 
-put-two-requires-2 : tie.Need-put-two-requires-2
-put-two-requires-2 c κs = search needs
+put-three-requires : tie.Need-put-three-requires
+put-three-requires c κs = search needs
 
 enum-known-r-4 : tie.Need-enum-known-r-4
 enum-known-r-4 c = search needs
 
-put-failure-requires : tie.Need-put-failure-requires
-put-failure-requires c κs = search needs
+put-three-requires-2 : tie.Need-put-three-requires-2
+put-three-requires-2 c κs = search needs
 
 enum-known-r-5 : tie.Need-enum-known-r-5
 enum-known-r-5 c = search needs
 
-put-two-requires-3 : tie.Need-put-two-requires-3
-put-two-requires-3 c κs = search needs
-
-enum-known-r-6 : tie.Need-enum-known-r-6
-enum-known-r-6 c = search needs
-
-put-three-requires : tie.Need-put-three-requires
-put-three-requires c κs = search needs
-
-enum-known-r-7 : tie.Need-enum-known-r-7
-enum-known-r-7 c = search needs
-
-put-three-requires-2 : tie.Need-put-three-requires-2
-put-three-requires-2 c κs = search needs
-
-enum-known-r-8 : tie.Need-enum-known-r-8
-enum-known-r-8 c = search needs
-
 put-three-requires-3 : tie.Need-put-three-requires-3
 put-three-requires-3 c κs = search needs
 
-enum-known-r-9 : tie.Need-enum-known-r-9
-enum-known-r-9 c = search needs
+enum-known-r-6 : tie.Need-enum-known-r-6
+enum-known-r-6 c = search needs
 
 put-three-requires-4 : tie.Need-put-three-requires-4
 put-three-requires-4 c κs = search needs
@@ -77,34 +59,25 @@ returns : tie.Need-returns
 returns c = told-as _ _ _ _ _ (ap editNumbers (sym (c .before .before .before .r .given .1))) (c .put-five .ensures)
 
 returns-2 : tie.Need-returns-2
-returns-2 c = told-as _ _ _ _ _ (ap editNumbers (sym (c .before .before .before .r2 .given .1))) (c .put-two .ensures)
+returns-2 c = told-as _ _ _ _ _ (ap editNumbers (sym (c .before .before .before .r2 .given .1))) (c .put-unread .ensures)
 
 returns-3 : tie.Need-returns-3
-returns-3 c = told-as _ _ _ _ _ (ap editNumbers (sym (c .before .before .before .r3 .given .1))) (c .put-two2 .ensures)
+returns-3 c = told-as _ _ _ _ _ (ap editNumbers (sym (c .before .before .before .r3 .given .1))) (c .put-three .ensures)
 
 returns-4 : tie.Need-returns-4
-returns-4 c = told-as _ _ _ _ _ (ap editNumbers (sym (c .before .before .before .r4 .given .1))) (c .put-failure .ensures)
+returns-4 c = told-as _ _ _ _ _ (ap editNumbers (sym (c .before .before .before .r4 .given .1))) (c .put-three2 .ensures)
 
 returns-5 : tie.Need-returns-5
-returns-5 c = told-as _ _ _ _ _ (ap editNumbers (sym (c .before .before .before .r5 .given .1))) (c .put-two3 .ensures)
+returns-5 c = told-as _ _ _ _ _ (ap editNumbers (sym (c .before .before .before .r5 .given .1))) (c .put-three3 .ensures)
 
 returns-6 : tie.Need-returns-6
-returns-6 c = told-as _ _ _ _ _ (ap editNumbers (sym (c .before .before .before .r6 .given .1))) (c .put-three .ensures)
+returns-6 c = told-as _ _ _ _ _ (ap editNumbers (sym (c .before .before .before .r6 .given .1))) (c .put-three4 .ensures)
 
 returns-7 : tie.Need-returns-7
-returns-7 c = told-as _ _ _ _ _ (ap editNumbers (sym (c .before .before .before .r7 .given .1))) (c .put-three2 .ensures)
+returns-7 c = told-as _ _ _ _ _ (ap editNumbers (sym (c .before .before .enum-told .given .1))) (c .put-one .ensures)
 
 returns-8 : tie.Need-returns-8
-returns-8 c = told-as _ _ _ _ _ (ap editNumbers (sym (c .before .before .before .r8 .given .1))) (c .put-three3 .ensures)
-
-returns-9 : tie.Need-returns-9
-returns-9 c = told-as _ _ _ _ _ (ap editNumbers (sym (c .before .before .before .r9 .given .1))) (c .put-three4 .ensures)
-
-returns-10 : tie.Need-returns-10
-returns-10 c = told-as _ _ _ _ _ (ap editNumbers (sym (c .before .before .enum-told .given .1))) (c .put-one .ensures)
-
-returns-11 : tie.Need-returns-11
-returns-11 c = told-as _ _ _ _ _ (ap editNumbers (sym (c .before .before .enum-told2 .given .1))) (c .put-one2 .ensures)
+returns-8 c = told-as _ _ _ _ _ (ap editNumbers (sym (c .before .before .enum-told2 .given .1))) (c .put-one2 .ensures)
 
 pub put-edit-spec : {M : Type 1} → statement M
 put-edit-spec =
@@ -113,20 +86,14 @@ put-edit-spec =
     enum-known-r
     put-five-requires
     enum-known-r-2
-    put-two-requires
+    put-unread-requires
     enum-known-r-3
-    put-two-requires-2
-    enum-known-r-4
-    put-failure-requires
-    enum-known-r-5
-    put-two-requires-3
-    enum-known-r-6
     put-three-requires
-    enum-known-r-7
+    enum-known-r-4
     put-three-requires-2
-    enum-known-r-8
+    enum-known-r-5
     put-three-requires-3
-    enum-known-r-9
+    enum-known-r-6
     put-three-requires-4
     enum-told
     put-one-requires
@@ -139,7 +106,4 @@ put-edit-spec =
     returns-5
     returns-6
     returns-7
-    returns-8
-    returns-9
-    returns-10
-    returns-11)
+    returns-8)

@@ -1,6 +1,6 @@
 -- `page_replies::put_report` meets its contract.
 -- Assumes nothing.
-use mathlib.Core.Path.{_≡_, sym, ap, _∙_}
+use mathlib.Core.Path.{sym, ap}
 use Rattle.report.specs.Answers.{reportNumbers}
 use Rattle.replies.proofs.Replies.{told-as}
 use borrow.Author.Needs.{needs}
@@ -16,23 +16,11 @@ put-two-requires c κs = search needs
 enum-known-r-2 : tie.Need-enum-known-r-2
 enum-known-r-2 c = search needs
 
-put-two-requires-2 : tie.Need-put-two-requires-2
-put-two-requires-2 c κs = search needs
+put-unread-requires : tie.Need-put-unread-requires
+put-unread-requires c κs = search needs
 
 enum-known-r-3 : tie.Need-enum-known-r-3
 enum-known-r-3 c = search needs
-
-put-two-requires-3 : tie.Need-put-two-requires-3
-put-two-requires-3 c κs = search needs
-
-enum-known-r-4 : tie.Need-enum-known-r-4
-enum-known-r-4 c = search needs
-
-put-two-requires-4 : tie.Need-put-two-requires-4
-put-two-requires-4 c κs = search needs
-
-enum-known-r-5 : tie.Need-enum-known-r-5
-enum-known-r-5 c = search needs
 
 put-three-requires : tie.Need-put-three-requires
 put-three-requires c κs = search needs
@@ -41,16 +29,10 @@ returns : tie.Need-returns
 returns c = told-as _ _ _ _ _ (ap reportNumbers (sym (c .before .before .before .r .given .1))) (c .put-two .ensures)
 
 returns-2 : tie.Need-returns-2
-returns-2 c = told-as _ _ _ _ _ (ap reportNumbers (sym (c .before .before .before .r2 .given .1))) (c .put-two2 .ensures)
+returns-2 c = told-as _ _ _ _ _ (ap reportNumbers (sym (c .before .before .before .r2 .given .1))) (c .put-unread .ensures)
 
 returns-3 : tie.Need-returns-3
-returns-3 c = told-as _ _ _ _ _ (ap reportNumbers (sym (c .before .before .before .r3 .given .1))) (c .put-two3 .ensures)
-
-returns-4 : tie.Need-returns-4
-returns-4 c = told-as _ _ _ _ _ (ap reportNumbers (sym (c .before .before .before .r4 .given .1))) (c .put-two4 .ensures)
-
-returns-5 : tie.Need-returns-5
-returns-5 c = told-as _ _ _ _ _ (ap reportNumbers (sym (c .before .before .before .r5 .given .1))) (c .put-three .ensures)
+returns-3 c = told-as _ _ _ _ _ (ap reportNumbers (sym (c .before .before .before .r3 .given .1))) (c .put-three .ensures)
 
 pub put-report-spec : {M : Type 1} → statement M
 put-report-spec =
@@ -59,15 +41,9 @@ put-report-spec =
     enum-known-r
     put-two-requires
     enum-known-r-2
-    put-two-requires-2
+    put-unread-requires
     enum-known-r-3
-    put-two-requires-3
-    enum-known-r-4
-    put-two-requires-4
-    enum-known-r-5
     put-three-requires
     returns
     returns-2
-    returns-3
-    returns-4
-    returns-5)
+    returns-3)

@@ -16,7 +16,7 @@ use Rattle.header.specs.Pages.{page}
 use Rattle.records.specs.Words.{lineWord}
 use Rattle.planning.specs.Plans.{editOf}
 use Rattle.planning.proofs.Begins.{Begun, begun}
-use Rattle.planning.proofs.Plans.{Editable, begins-within, inside-u, edited-holds, Gives, gives, stop-small, stop-plan, end-small, end-plan, fail-plan, deep-plan}
+use Rattle.planning.proofs.Plans.{Editable, begins-within, inside-u, edited-holds, Gives, gives, stop-small, stop-plan, end-small, end-plan, halt-plan}
 use borrow.Author.Needs.{needs}
 use Rattle.planning.proofs.plan_edit.Statement.{statement}
 use Rattle.planning.proofs.plan_edit.Tie as tie
@@ -125,11 +125,8 @@ plan-end-requires c κs =
     let v = end-small (ok x) g (c .before .c2 .given .0 .1 .1 .0) (given x (c .before .c2 .given .1)) in
     ((g .within, (g .m-le, ok x .fits .lines)), (g .usable .first, (g .k-le, (v .0, v .1))))
 
-enum-known-f : tie.Need-enum-known-f
-enum-known-f c = search needs
-
-enum-known-number : tie.Need-enum-known-number
-enum-known-number c = search needs
+enum-known-u : tie.Need-enum-known-u
+enum-known-u c = search needs
 
 returns-2 : tie.Need-returns-2
 returns-2 c =
@@ -146,10 +143,7 @@ returns-3 c =
     rw (c .plan-end .ensures, s .pre .1 .1) (end-plan (ok x) (begun-of x) (m .given .0 .1 .1 .0) (given x (m .given .1)) (omega (arith, s .fits)))
 
 returns-4 : tie.Need-returns-4
-returns-4 c = let x = c .before .before .before in fail-plan (ok x) (begun-of x) (given x (c .before .f .given .1))
-
-returns-5 : tie.Need-returns-5
-returns-5 c = let x = c .before .before .before in deep-plan (ok x) (begun-of x) (given x (c .before .number .given .1))
+returns-4 c = let x = c .before .before .before in halt-plan (ok x) (begun-of x) (given x (c .before .u .given .1))
 
 pub plan-edit-spec : {M : Type 1} → statement M
 plan-edit-spec =
@@ -168,9 +162,7 @@ plan-edit-spec =
     plan-stop-requires
     enum-known-c-2
     plan-end-requires
-    enum-known-f
-    enum-known-number
+    enum-known-u
     returns-2
     returns-3
-    returns-4
-    returns-5)
+    returns-4)

@@ -10,6 +10,7 @@ use lib.ListN.{length, drop, length-drop, length-take}
 use lib.Seq.{take-all}
 use borrow.Author.Needs.{needs}
 use Rattle.rules.specs.Line.{State}
+use Rattle.refusals.proofs.Barge.{barge-line, barge-fits}
 use Rattle.rules.specs.Records.{lineSize}
 use Rattle.records.specs.Words.{lineWord}
 use Rattle.planning.proofs.reread_from.Statement.{statement}
@@ -30,18 +31,24 @@ sign-table-requires c κs = search needs
 keyword-table-requires : tie.Need-keyword-table-requires
 keyword-table-requires c κs = search needs
 
+barge-limits-requires : tie.Need-barge-limits-requires
+barge-limits-requires c κs = search needs
+
 slice-aggregate-load-state : tie.Need-slice-aggregate-load-state
 slice-aggregate-load-state c = search needs
 
 load-state-requires : tie.Need-load-state-requires
 load-state-requires c κs =
-    let p = c .before .before .before .before .before .before .before .before .pre in
+    let p = c .before .before .before .before .before .before .before .before .before .pre in
     ((p .0 .0, (omega (arith, p .0 .1 .0, p .0 .1 .1 .1), refl)), p .1 .0 .1 .1)
 
 -- The place where the state is loaded.
 module _ (l : tie.After-load-state) where
   abbrev start : tie.Start
-  start = l .before .before .before .before .before .before .before .before .before
+  start = l .before .before .before .before .before .before .before .before .before .before
+
+  abbrev limits : tie.After-barge-limits
+  limits = l .before .before
 
   abbrev base : ℕ
   base = lineWord (start .args .lines .now) (start .args .i) 0
@@ -82,7 +89,8 @@ slice-aggregate-read-on-3 c = search needs
 read-on-requires : tie.Need-read-on-requires
 read-on-requires c κs =
     let l = c .before .before .before .before .before .before .before .before .before .before .before in
-    let t = l .before .before in
+    let t = limits l .before in
+    let b = limits l .barge-limits in
     let s = start l in
     let E = s .args .edited .now in
     let d : l .load-state .result .depth ≡ lineWord (s .args .lines .now) (s .args .i) 2 = ap (λ (y : State). y .depth) (l .load-state .ensures .0) in (
@@ -103,7 +111,7 @@ read-on-requires c κs =
                 (
                   s .pre .0 .1 .1,
                   (
-                    (omega (arith, d, s .pre .1 .0 .1 .0), (l .load-state .ensures .1, l .load-state .kept .1 .1 .0)),
+                    (omega (arith, d, s .pre .1 .0 .1 .0), (l .load-state .ensures .1, l .load-state .kept .1 .1 .0, barge-fits (b .result) (b .ensures) .1)),
                     record { ends = λ e. absurd (false≢true e); room = λ e. absurd (false≢true e); few = inl refl },
                   ),
                 ),
@@ -121,7 +129,8 @@ returns c =
     let s = start l in
     let E = s .args .edited .now in
     let rest = take-all (length E - base l) (drop (base l) E) (omega (arith, length-drop (base l) E)) in
-    rw (rest, l .load-state .ensures .0) at (r .read-on .ensures .0)
+    let b = limits l .barge-limits in
+    rw (rest, l .load-state .ensures .0, barge-line (b .result) (b .ensures)) at (r .read-on .ensures .0)
 
 pub reread-from-spec : {M : Type 1} → statement M
 reread-from-spec =
@@ -132,6 +141,7 @@ reread-from-spec =
     sign-index-requires
     sign-table-requires
     keyword-table-requires
+    barge-limits-requires
     slice-aggregate-load-state
     load-state-requires
     mul-base

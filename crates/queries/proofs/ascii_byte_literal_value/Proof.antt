@@ -1,42 +1,64 @@
 -- `queries::ascii_byte_literal_value` meets its contract.
 -- Assumes nothing.
-use mathlib.Core.Path.{_∙_}
-use mathlib.Core.List.{[]}
-use native.Mathlib.Omega.{arith}
+use Prim.Native.Nat.{ℕ}
+use mathlib.Core.Path.{_≡_, sym, ap, _∙_}
+use mathlib.Core.List.{List, []}
+use borrow.Author.Needs.{needs}
+use Rattle.rules.specs.Limits.{Limits, barge}
 use Rattle.rules.specs.Replies.{unless, firstOf}
 use Rattle.rules.specs.ByteValue.{literalValue, valueReply}
+use Rattle.refusals.specs.Unreads.{testOf}
+use Rattle.refusals.specs.declared.TextTest.{TextTest}
+use Rattle.refusals.specs.declared.TextTest.the-variants.{Passes, Refused}
+use Rattle.refusals.proofs.Tests.{replyAfter, reply-after}
 use Rattle.queries.specs.Answers.{optionReply}
-use Rattle.queries.proofs.Gates.{too-long, ill-formed, both-pass}
-use borrow.Author.Needs.{needs}
 use Rattle.queries.proofs.ascii_byte_literal_value.Statement.{statement}
 use Rattle.queries.proofs.ascii_byte_literal_value.Tie as tie
 
-returns : tie.Need-returns
-unfolding valueReply
-returns c =
-    let t = c .before .before .args .text .now in
-    too-long t [] (optionReply (literalValue t)) (c .if1 .taken) (omega arith)
+-- The tests' answer.
+module _ (x : tie.After-test-text) where
+  abbrev start : tie.Start
+  start = x .before .before .before
 
-well-formed-prefix-requires : tie.Need-well-formed-prefix-requires
-well-formed-prefix-requires c κs = search needs
+  abbrev text : List ℕ
+  text = start .args .text .now
 
-returns-2 : tie.Need-returns-2
-unfolding valueReply
-returns-2 c =
-    let t = c .before .before .before .before .args .text .now in
-    ill-formed t [] (optionReply (literalValue t)) (c .before .before .if1 .left) _ (c .before .well-formed-prefix .ensures) (c .if2 .taken)
+  test-is : (r : TextTest) → x .test-text .result ≡ r → testOf barge text ≡ r
+  test-is r e = ap (λ (l : Limits). testOf l text) (sym (x .before .barge-limits .ensures)) ∙ sym (x .test-text .ensures) ∙ e
+
+  reply-is : (r : TextTest) → x .test-text .result ≡ r → valueReply text ≡ replyAfter r (optionReply (literalValue text))
+  unfolding valueReply unless firstOf
+  reply-is r e = reply-after text [] (optionReply (literalValue text)) r (test-is r e)
+
+barge-limits-requires : tie.Need-barge-limits-requires
+barge-limits-requires c κs = search needs
+
+test-text-requires : tie.Need-test-text-requires
+test-text-requires c κs = search needs
+
+enum-told : tie.Need-enum-told
+enum-told c = search needs
 
 literal-value-requires : tie.Need-literal-value-requires
 literal-value-requires c κs = search needs
 
-returns-3 : tie.Need-returns-3
-unfolding valueReply unless firstOf
-returns-3 c =
-    let f = c .before .before in
-    let t = f .before .before .before .args .text .now in
-    c .literal-value .ensures ∙ both-pass t [] (optionReply (literalValue t)) (f .before .if1 .left) _ (f .well-formed-prefix .ensures) (c .before .if2 .left)
+enum-known-u : tie.Need-enum-known-u
+enum-known-u c = search needs
+
+returns : tie.Need-returns
+returns c = c .literal-value .ensures ∙ sym (reply-is (c .before .before .before) Passes (c .before .enum-told .given .1))
+
+returns-2 : tie.Need-returns-2
+returns-2 c = sym (reply-is (c .before .before .before) (Refused (c .before .u .given .0 .0)) (c .before .u .given .1))
 
 pub ascii-byte-literal-value-spec : {M : Type 1} → statement M
 ascii-byte-literal-value-spec =
     tie.close
-    (tie.spec returns well-formed-prefix-requires returns-2 literal-value-requires returns-3)
+    (tie.spec
+    barge-limits-requires
+    test-text-requires
+    enum-told
+    literal-value-requires
+    enum-known-u
+    returns
+    returns-2)

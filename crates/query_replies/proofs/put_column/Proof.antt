@@ -1,6 +1,6 @@
 -- `query_replies::put_column` meets its contract.
 -- Assumes nothing.
-use mathlib.Core.Path.{_≡_, sym, ap, _∙_}
+use mathlib.Core.Path.{sym, ap}
 use Rattle.queries.specs.Answers.{columnNumbers}
 use Rattle.replies.proofs.Replies.{told-as}
 use borrow.Author.Needs.{needs}
@@ -16,14 +16,8 @@ put-two-requires c κs = search needs
 enum-known-r-2 : tie.Need-enum-known-r-2
 enum-known-r-2 c = search needs
 
-put-two-requires-2 : tie.Need-put-two-requires-2
-put-two-requires-2 c κs = search needs
-
-enum-known-r-3 : tie.Need-enum-known-r-3
-enum-known-r-3 c = search needs
-
-put-two-requires-3 : tie.Need-put-two-requires-3
-put-two-requires-3 c κs = search needs
+put-unread-requires : tie.Need-put-unread-requires
+put-unread-requires c κs = search needs
 
 enum-told : tie.Need-enum-told
 enum-told c = search needs
@@ -35,13 +29,10 @@ returns : tie.Need-returns
 returns c = told-as _ _ _ _ _ (ap columnNumbers (sym (c .before .before .before .r .given .1))) (c .put-two .ensures)
 
 returns-2 : tie.Need-returns-2
-returns-2 c = told-as _ _ _ _ _ (ap columnNumbers (sym (c .before .before .before .r2 .given .1))) (c .put-two2 .ensures)
+returns-2 c = told-as _ _ _ _ _ (ap columnNumbers (sym (c .before .before .before .r2 .given .1))) (c .put-unread .ensures)
 
 returns-3 : tie.Need-returns-3
-returns-3 c = told-as _ _ _ _ _ (ap columnNumbers (sym (c .before .before .before .r3 .given .1))) (c .put-two3 .ensures)
-
-returns-4 : tie.Need-returns-4
-returns-4 c = told-as _ _ _ _ _ (ap columnNumbers (sym (c .before .before .enum-told .given .1))) (c .put-one .ensures)
+returns-3 c = told-as _ _ _ _ _ (ap columnNumbers (sym (c .before .before .enum-told .given .1))) (c .put-one .ensures)
 
 pub put-column-spec : {M : Type 1} → statement M
 put-column-spec =
@@ -50,12 +41,9 @@ put-column-spec =
     enum-known-r
     put-two-requires
     enum-known-r-2
-    put-two-requires-2
-    enum-known-r-3
-    put-two-requires-3
+    put-unread-requires
     enum-told
     put-one-requires
     returns
     returns-2
-    returns-3
-    returns-4)
+    returns-3)

@@ -1,6 +1,6 @@
 -- `query_replies::put_value` meets its contract.
 -- Assumes nothing.
-use mathlib.Core.Path.{_≡_, sym, ap, _∙_}
+use mathlib.Core.Path.{sym, ap}
 use Rattle.queries.specs.Answers.{valueNumbers}
 use Rattle.replies.proofs.Replies.{told-as}
 use borrow.Author.Needs.{needs}
@@ -25,14 +25,8 @@ put-two-requires c κs = search needs
 enum-known-r-2 : tie.Need-enum-known-r-2
 enum-known-r-2 c = search needs
 
-put-two-requires-2 : tie.Need-put-two-requires-2
-put-two-requires-2 c κs = search needs
-
-enum-known-r-3 : tie.Need-enum-known-r-3
-enum-known-r-3 c = search needs
-
-put-two-requires-3 : tie.Need-put-two-requires-3
-put-two-requires-3 c κs = search needs
+put-unread-requires : tie.Need-put-unread-requires
+put-unread-requires c κs = search needs
 
 returns : tie.Need-returns
 returns c = told-as _ _ _ _ _ (ap valueNumbers (sym (c .before .before .before .r .given .1))) (c .put-three .ensures)
@@ -41,10 +35,7 @@ returns-2 : tie.Need-returns-2
 returns-2 c = told-as _ _ _ _ _ (ap valueNumbers (sym (c .before .before .enum-told .given .1))) (c .put-two .ensures)
 
 returns-3 : tie.Need-returns-3
-returns-3 c = told-as _ _ _ _ _ (ap valueNumbers (sym (c .before .before .before .r2 .given .1))) (c .put-two2 .ensures)
-
-returns-4 : tie.Need-returns-4
-returns-4 c = told-as _ _ _ _ _ (ap valueNumbers (sym (c .before .before .before .r3 .given .1))) (c .put-two3 .ensures)
+returns-3 c = told-as _ _ _ _ _ (ap valueNumbers (sym (c .before .before .before .r2 .given .1))) (c .put-unread .ensures)
 
 pub put-value-spec : {M : Type 1} → statement M
 put-value-spec =
@@ -56,10 +47,7 @@ put-value-spec =
     enum-told
     put-two-requires
     enum-known-r-2
-    put-two-requires-2
-    enum-known-r-3
-    put-two-requires-3
+    put-unread-requires
     returns
     returns-2
-    returns-3
-    returns-4)
+    returns-3)

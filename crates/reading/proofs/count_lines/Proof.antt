@@ -31,7 +31,7 @@ slice-aggregate-pass-lines-3 : tie.Need-slice-aggregate-pass-lines-3
 slice-aggregate-pass-lines-3 c = search needs
 
 pass-lines-requires : tie.Need-pass-lines-requires
-pass-lines-requires c κs = (c .before .before .before .before .before .before .before .before .before .before .before .before .class-table .ensures, (c .before .before .before .before .before .before .before .before .before .before .before .reach-table .ensures, (c .before .before .before .before .before .before .before .before .before .before .sign-index .ensures, (c .before .before .before .before .before .before .before .before .before .sign-table .ensures, (c .before .before .before .before .before .before .before .before .keyword-table .ensures, ((c .before .before .before .before .before .before .before .before .before .before .before .before .before .before .pre, refl), λ w. absurd (false≢true w)))))))
+pass-lines-requires c κs = (c .before .before .before .before .before .before .before .before .before .before .before .before .class-table .ensures, (c .before .before .before .before .before .before .before .before .before .before .before .reach-table .ensures, (c .before .before .before .before .before .before .before .before .before .before .sign-index .ensures, (c .before .before .before .before .before .before .before .before .before .sign-table .ensures, (c .before .before .before .before .before .before .before .before .keyword-table .ensures, ((c .before .before .before .before .before .before .before .before .before .before .before .before .before .before .pre .0, refl, c .before .before .before .before .before .before .before .before .before .before .before .before .before .before .pre .1), λ w. absurd (false≢true w)))))))
 
 returns : tie.Need-returns
 returns c = c .before .before .before .pass-lines .ensures .0

@@ -7,8 +7,10 @@ use mathlib.Core.List.{List}
 use native.Mathlib.Omega.{arith}
 use borrow.Author.Needs.{needs}
 use lib.ListN.{length, replicate}
+use Rattle.rules.specs.Limits.{LineLimits}
 use Rattle.rules.specs.Line.{initial}
 use Rattle.rules.specs.Reading.{linesOf, readFrom}
+use Rattle.refusals.specs.Limits.{lineLimitsOf}
 use Rattle.rules.specs.Records.{widthWords, lineSize}
 use Rattle.records.specs.declared.State.{State}
 use Rattle.rereading.specs.declared.Reread.{Reread}
@@ -16,7 +18,7 @@ use Rattle.rereading.specs.declared.Reread.the-variants.{Ends}
 use Rattle.rereading.specs.Rereads.{RereadIs}
 use Rattle.rereading.specs.Rewrites.{EndsIn}
 use Rattle.reading.specs.Passes.{RoomIn}
-use Rattle.reading.proofs.Lines.{EndOf, end-of, end-small, may-pass, end-room, failed-pass, deep-pass, end-pass}
+use Rattle.reading.proofs.Lines.{EndOf, end-of, end-small, may-pass, end-room, halted-pass, end-pass}
 use Rattle.reading.proofs.pass_lines.Statement.{statement}
 use Rattle.reading.proofs.pass_lines.Tie as tie
 
@@ -25,10 +27,16 @@ module _ (s : tie.Start) where
   abbrev text : List ℕ
   text = s .args .text .now
 
+  abbrev lim : LineLimits
+  lim = lineLimitsOf (s .args .limits)
+
   few-bytes : length text ≤ 1_048_576
   few-bytes = s .pre .1 .1 .1 .1 .1 .0 .0
 
-  room : s .args .write ≡ true → RoomIn (readFrom 16 initial (linesOf text)) (length (s .args .lines .now)) (length (s .args .tokens .now))
+  fit : lim .levels ≤ 16
+  fit = s .pre .1 .1 .1 .1 .1 .0 .2
+
+  room : s .args .write ≡ true → RoomIn (readFrom lim initial (linesOf text)) (length (s .args .lines .now)) (length (s .args .tokens .now))
   room = s .pre .1 .1 .1 .1 .1 .1
 
 -- The place after reading on, and what that gave.
@@ -43,19 +51,19 @@ module _ (r : tie.After-read-on) where
   tokens-now = r .read-on .last .1 .1 .1 .1 .1 .1 .1 .1 .1 .1 .1 .1 .1 .0
 
   abbrev widths-now : List ℕ
-  widths-now = r .read-on .last .1 .1 .1 .1 .1 .1 .1 .1 .1 .1 .1 .1 .1 .1 .1 .1 .1 .0
+  widths-now = r .read-on .last .1 .1 .1 .1 .1 .1 .1 .1 .1 .1 .1 .1 .1 .1 .1 .1 .1 .1 .0
 
   wide : length widths-now ≡ widthWords
-  wide = r .read-on .kept .1 .1 .1 .1 .1 .1 .1 .1 .1 .1 .1 .1 .1 .1 .1 .1 .1 .0 ∙ start .pre .1 .1 .1 .1 .1 .0 .1
+  wide = r .read-on .kept .1 .1 .1 .1 .1 .1 .1 .1 .1 .1 .1 .1 .1 .1 .1 .1 .1 .1 .0 ∙ start .pre .1 .1 .1 .1 .1 .0 .1
 
   abbrev Gave : Reread → Type 0
-  Gave = RereadIs (text start) (replicate lineSize 0) 0 0 0 0 0 (length (text start)) initial
+  Gave = RereadIs (lim start) (text start) (replicate lineSize 0) 0 0 0 0 0 (length (text start)) initial
 
   gave : (y : Reread) → r .read-on .result ≡ y → Gave y
   gave y e = subst Gave e (r .read-on .ensures .0)
 
-  ended : (m k : ℕ) (s : State) → r .read-on .result ≡ Ends m k s → EndOf (text start) widths-now m k s
-  ended m k s e = end-of (replicate lineSize 0) widths-now m k s (gave (Ends m k s) e) (subst (EndsIn (readFrom 16 initial (linesOf (text start))) widths-now) e (r .read-on .ensures .1 .0)) wide
+  ended : (m k : ℕ) (s : State) → r .read-on .result ≡ Ends m k s → EndOf (lim start) (text start) widths-now m k s
+  ended m k s e = end-of (replicate lineSize 0) widths-now m k s (gave (Ends m k s) e) (subst (EndsIn (readFrom (lim start) initial (linesOf (text start))) widths-now) e (r .read-on .ensures .1 .0)) wide
 
 abbrev read-at : tie.After-known-told → tie.After-read-on
 read-at c = c .before .before .before .before .before .before .before .before .before
@@ -63,7 +71,7 @@ read-at c = c .before .before .before .before .before .before .before .before .b
 abbrev began : tie.After-known-told → tie.Start
 began c = start (read-at c)
 
-abbrev end-at : (c : tie.After-known-told) → let x = c .before .m .given .0 in EndOf (text (began c)) (widths-now (read-at c)) (x .0) (x .1 .0) (x .1 .1 .0)
+abbrev end-at : (c : tie.After-known-told) → let x = c .before .m .given .0 in EndOf (lim (began c)) (text (began c)) (widths-now (read-at c)) (x .0) (x .1 .0) (x .1 .1 .0)
 end-at c = let x = c .before .m .given .0 in ended (read-at c) (x .0) (x .1 .0) (x .1 .1 .0) (c .before .m .given .1)
 
 slice-aggregate-read-on : tie.Need-slice-aggregate-read-on
@@ -74,7 +82,7 @@ read-on-requires c κs =
     let s = c .before .before .before .before .before .before .before .before in
     let p = s .pre in
     let h = few-bytes s in
-    (p .0, (p .1 .0, (p .1 .1 .0, (p .1 .1 .1 .0, (p .1 .1 .1 .1 .0, ((omega arith, (omega arith, (omega arith, omega arith))), ((omega arith, omega arith), ((omega arith, (omega arith, p .1 .1 .1 .1 .1 .0 .1)), may-pass (text s) h (s .args .write) (s .args .lines .now) (s .args .tokens .now) (room s)))))))))
+    (p .0, (p .1 .0, (p .1 .1 .0, (p .1 .1 .1 .0, (p .1 .1 .1 .1 .0, ((omega arith, (omega arith, (omega arith, omega arith))), ((omega arith, omega arith), ((omega arith, (omega arith, p .1 .1 .1 .1 .1 .0 .1, fit s)), may-pass (lim s) (fit s) (text s) h (s .args .write) (s .args .lines .now) (s .args .tokens .now) (room s)))))))))
 
 enum-known-m : tie.Need-enum-known-m
 enum-known-m c = search needs
@@ -82,7 +90,7 @@ enum-known-m c = search needs
 -- The end.
 
 small : (c : tie.After-known-told) → let x = c .before .m .given .0 in (x .0 ≤ 1_048_576) × (x .1 .0 + x .1 .1 .0 .levels ≤ 2_097_152)
-small c = end-small (text (began c)) (few-bytes (began c)) (end-at c)
+small c = end-small (lim (began c)) (fit (began c)) (text (began c)) (few-bytes (began c)) (end-at c)
 
 cast-put-line : tie.Need-cast-put-line
 cast-put-line c = omega (arith, few-bytes (began (c .before)))
@@ -94,7 +102,7 @@ put-line-requires : tie.Need-put-line-requires
 put-line-requires c κs =
     let e = c .before .before in
     let s = began e in
-    ((wide (read-at e), end-at e .few), λ w. omega (arith, read-at e .read-on .kept .1 .1 .1 .1 .1 .1 .1 .1 .1 .1 .1 .1 .0, end-room (text s) (few-bytes s) (s .args .write) (s .args .lines .now) (s .args .tokens .now) (room s) (end-at e) w .0))
+    ((wide (read-at e), end-at e .few), λ w. omega (arith, read-at e .read-on .kept .1 .1 .1 .1 .1 .1 .1 .1 .1 .1 .1 .1 .0, end-room (lim s) (fit s) (text s) (few-bytes s) (s .args .write) (s .args .lines .now) (s .args .tokens .now) (room s) (end-at e) w .0))
 
 cast-put-dedents : tie.Need-cast-put-dedents
 cast-put-dedents c = omega (arith, few-bytes (began (c .before .before .before .before .before .before)))
@@ -109,7 +117,7 @@ put-dedents-requires : tie.Need-put-dedents-requires
 put-dedents-requires c κs =
     let e = c .before .before .before .before .before .before in
     let s = began e in
-    (omega (arith, small e), λ w. omega (arith, read-at e .read-on .kept .1 .1 .1 .1 .1 .1 .1 .1 .1 .1 .1 .1 .1 .0, end-room (text s) (few-bytes s) (s .args .write) (s .args .lines .now) (s .args .tokens .now) (room s) (end-at e) w .1))
+    (omega (arith, small e), λ w. omega (arith, read-at e .read-on .kept .1 .1 .1 .1 .1 .1 .1 .1 .1 .1 .1 .1 .1 .0, end-room (lim s) (fit s) (text s) (few-bytes s) (s .args .write) (s .args .lines .now) (s .args .tokens .now) (room s) (end-at e) w .1))
 
 add-t41 : tie.Need-add-t41
 add-t41 c = omega (arith, small (c .before .before .before .before .before .before .before .before .before .before))
@@ -117,11 +125,8 @@ add-t41 c = omega (arith, small (c .before .before .before .before .before .befo
 enum-known-m-2 : tie.Need-enum-known-m-2
 enum-known-m-2 c = search needs
 
-enum-known-f : tie.Need-enum-known-f
-enum-known-f c = search needs
-
-enum-known-number : tie.Need-enum-known-number
-enum-known-number c = search needs
+enum-known-u : tie.Need-enum-known-u
+enum-known-u c = search needs
 
 same-length : tie.Need-same-length
 same-length c = search needs
@@ -139,7 +144,7 @@ returns c =
     let e = l .before .before .before in
     let s = began e in
     let put = read-at e .read-on .ensures .1 .1 in
-    end-pass (text s) (few-bytes s) (s .args .write) (s .args .lines .now) (s .args .tokens .now) (room s) (lines-now (read-at e)) (tokens-now (read-at e)) (put .0) (put .1) (end-at e) _ _ (l .put-line .ensures) (d .put-dedents .ensures)
+    end-pass (lim s) (fit s) (text s) (few-bytes s) (s .args .write) (s .args .lines .now) (s .args .tokens .now) (room s) (lines-now (read-at e)) (tokens-now (read-at e)) (put .0) (put .1) (end-at e) _ _ (l .put-line .ensures) (d .put-dedents .ensures)
 
 same-length-4 : tie.Need-same-length-4
 same-length-4 c = search needs
@@ -170,23 +175,7 @@ returns-3 c =
     let r = c .before .before .before .before .before .before .before .before .before in
     let s = start r in
     let put = r .read-on .ensures .1 .1 in
-    failed-pass (text s) (few-bytes s) (s .args .write) (s .args .lines .now) (s .args .tokens .now) (room s) (lines-now r) (tokens-now r) (put .0) (put .1) _ (gave r _ (c .before .f .given .1) .0)
-
-same-length-10 : tie.Need-same-length-10
-same-length-10 c = search needs
-
-same-length-11 : tie.Need-same-length-11
-same-length-11 c = search needs
-
-same-length-12 : tie.Need-same-length-12
-same-length-12 c = search needs
-
-returns-4 : tie.Need-returns-4
-returns-4 c =
-    let r = c .before .before .before .before .before .before .before .before .before in
-    let s = start r in
-    let put = r .read-on .ensures .1 .1 in
-    deep-pass (text s) (few-bytes s) (s .args .write) (s .args .lines .now) (s .args .tokens .now) (room s) (lines-now r) (tokens-now r) (put .0) (put .1) _ (gave r _ (c .before .number .given .1) .0)
+    halted-pass (lim s) (fit s) (text s) (few-bytes s) (s .args .write) (s .args .lines .now) (s .args .tokens .now) (room s) (lines-now r) (tokens-now r) (put .0) (put .1) _ (gave r _ (c .before .u .given .1) .0)
 
 pub pass-lines-spec : {M : Type 1} → statement M
 pass-lines-spec =
@@ -204,8 +193,7 @@ pass-lines-spec =
     put-dedents-requires
     add-t41
     enum-known-m-2
-    enum-known-f
-    enum-known-number
+    enum-known-u
     same-length
     same-length-2
     same-length-3
@@ -217,8 +205,4 @@ pass-lines-spec =
     same-length-7
     same-length-8
     same-length-9
-    returns-3
-    same-length-10
-    same-length-11
-    same-length-12
-    returns-4)
+    returns-3)

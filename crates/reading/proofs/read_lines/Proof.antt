@@ -8,8 +8,10 @@ use borrow.Author.Needs.{needs}
 use lib.ListN.{length}
 use Rattle.rules.specs.Line.{initial}
 use Rattle.rules.specs.Reading.{linesOf, readFrom}
+use Rattle.rules.specs.Records.{readLines}
+use Rattle.refusals.specs.Limits.{lineLimitsOf}
 use Rattle.reading.specs.declared.ReadAnswer.the-variants as answers
-use Rattle.reading.proofs.Fills.{pass-counted, failed-answer, deep-answer, left-as, begun-as}
+use Rattle.reading.proofs.Fills.{pass-counted, pass-refused, refused-answer, left-as, begun-as}
 use Rattle.reading.proofs.read_lines.Statement.{statement}
 use Rattle.reading.proofs.read_lines.Tie as tie
 
@@ -32,7 +34,7 @@ slice-aggregate-pass-lines : tie.Need-slice-aggregate-pass-lines
 slice-aggregate-pass-lines c = search needs
 
 pass-lines-requires : tie.Need-pass-lines-requires
-pass-lines-requires c κs = (c .before .before .before .before .before .before .before .before .before .before .before .before .class-table .ensures, (c .before .before .before .before .before .before .before .before .before .before .before .reach-table .ensures, (c .before .before .before .before .before .before .before .before .before .before .sign-index .ensures, (c .before .before .before .before .before .before .before .before .before .sign-table .ensures, (c .before .before .before .before .before .before .before .before .keyword-table .ensures, ((c .before .before .before .before .before .before .before .before .before .before .before .before .before .before .before .before .pre, refl), λ w. absurd (false≢true w)))))))
+pass-lines-requires c κs = (c .before .before .before .before .before .before .before .before .before .before .before .before .class-table .ensures, (c .before .before .before .before .before .before .before .before .before .before .before .reach-table .ensures, (c .before .before .before .before .before .before .before .before .before .before .sign-index .ensures, (c .before .before .before .before .before .before .before .before .before .sign-table .ensures, (c .before .before .before .before .before .before .before .before .keyword-table .ensures, ((c .before .before .before .before .before .before .before .before .before .before .before .before .before .before .before .before .pre .0, refl, c .before .before .before .before .before .before .before .before .before .before .before .before .before .before .before .before .pre .1), λ w. absurd (false≢true w)))))))
 
 enum-known-m : tie.Need-enum-known-m
 enum-known-m c = search needs
@@ -41,15 +43,13 @@ slice-aggregate-store-records : tie.Need-slice-aggregate-store-records
 slice-aggregate-store-records c = search needs
 
 store-records-requires : tie.Need-store-records-requires
+unfolding readLines
 store-records-requires c κs =
     let a = c .before .before .before .before .before .before .before .before .before .before .before .before .before .before .before .before .before .before .before .before .before .before .before .before .before .before .before .before .before .before .before .before .before .args in
-    (c .before .before .before .before .before .before .before .before .before .before .before .before .before .before .before .before .before .before .before .before .before .before .before .before .before .before .before .before .before .class-table .ensures, (c .before .before .before .before .before .before .before .before .before .before .before .before .before .before .before .before .before .before .before .before .before .before .before .before .before .before .before .before .reach-table .ensures, (c .before .before .before .before .before .before .before .before .before .before .before .before .before .before .before .before .before .before .before .before .before .before .before .before .before .before .before .sign-index .ensures, (c .before .before .before .before .before .before .before .before .before .before .before .before .before .before .before .before .before .before .before .before .before .before .before .before .before .before .sign-table .ensures, (c .before .before .before .before .before .before .before .before .before .before .before .before .before .before .before .before .before .before .before .before .before .before .before .before .before .keyword-table .ensures, ((c .before .before .before .before .before .before .before .before .before .before .before .before .before .before .before .before .before .before .before .before .before .before .before .before .before .before .before .before .before .before .before .before .before .pre, c .before .before .before .before .before .before .before .before .before .before .before .before .before .before .before .before .pass-lines .kept .1 .1 .1 .1 .1 .1 .1 .1 .1 .0), pass-counted (readFrom 16 initial (linesOf (a .text .now))) _ _ (sym (c .before .before .before .before .before .before .before .before .before .m .given .1) ∙ c .before .before .before .before .before .before .before .before .before .before .before .before .before .before .before .before .pass-lines .ensures .0)))))))
+    (c .before .before .before .before .before .before .before .before .before .before .before .before .before .before .before .before .before .before .before .before .before .before .before .before .before .before .before .before .before .class-table .ensures, (c .before .before .before .before .before .before .before .before .before .before .before .before .before .before .before .before .before .before .before .before .before .before .before .before .before .before .before .before .reach-table .ensures, (c .before .before .before .before .before .before .before .before .before .before .before .before .before .before .before .before .before .before .before .before .before .before .before .before .before .before .before .sign-index .ensures, (c .before .before .before .before .before .before .before .before .before .before .before .before .before .before .before .before .before .before .before .before .before .before .before .before .before .before .sign-table .ensures, (c .before .before .before .before .before .before .before .before .before .before .before .before .before .before .before .before .before .before .before .before .before .before .before .before .before .keyword-table .ensures, ((c .before .before .before .before .before .before .before .before .before .before .before .before .before .before .before .before .before .before .before .before .before .before .before .before .before .before .before .before .before .before .before .before .before .pre .0, c .before .before .before .before .before .before .before .before .before .before .before .before .before .before .before .before .pass-lines .kept .1 .1 .1 .1 .1 .1 .1 .1 .1 .1 .0, c .before .before .before .before .before .before .before .before .before .before .before .before .before .before .before .before .before .before .before .before .before .before .before .before .before .before .before .before .before .before .before .before .before .pre .1), pass-counted (readFrom (lineLimitsOf (a .limits)) initial (linesOf (a .text .now))) _ _ (sym (c .before .before .before .before .before .before .before .before .before .m .given .1) ∙ c .before .before .before .before .before .before .before .before .before .before .before .before .before .before .before .before .pass-lines .ensures .0)))))))
 
-enum-known-f : tie.Need-enum-known-f
-enum-known-f c = search needs
-
-enum-known-number : tie.Need-enum-known-number
-enum-known-number c = search needs
+enum-known-u : tie.Need-enum-known-u
+enum-known-u c = search needs
 
 same-length : tie.Need-same-length
 same-length c = search needs
@@ -61,7 +61,7 @@ returns : tie.Need-returns
 returns c =
     let a = c .before .before .before .before .before .before .before .before .before .before .before .before .before .before .before .before .before .before .before .before .before .before .before .before .before .before .before .before .before .before .before .before .before .before .before .before .before .before .before .args in
     let e = c .before .before .before .before .before .before .before .before .before .before .before .before .before .before .before .before .before .before .before .before .before .before .pass-lines .ensures .1 in
-    begun-as (a .text .now) (a .lines .now) (a .tokens .now) _ _ (c .before .before .before .before .before .store-records .result) _ _ (e .0) (e .1) (c .before .before .before .before .before .store-records .ensures)
+    begun-as (readLines (lineLimitsOf (a .limits)) (a .text .now)) (a .lines .now) (a .tokens .now) _ _ (c .before .before .before .before .before .store-records .result) _ _ (e .0) (e .1) (c .before .before .before .before .before .store-records .ensures)
 
 same-length-3 : tie.Need-same-length-3
 same-length-3 c = search needs
@@ -73,19 +73,7 @@ returns-2 : tie.Need-returns-2
 returns-2 c =
     let a = c .before .before .before .before .before .before .before .before .before .before .before .before .before .before .before .before .before .before .before .before .before .before .before .before .before .args in
     let e = c .before .before .before .before .before .before .before .before .pass-lines .ensures in
-    left-as _ (answers.Fails (c .before .f .given .0 .0)) (a .lines .now) (a .tokens .now) _ _ (e .1 .0) (e .1 .1) (failed-answer (a .text .now) (a .lines .now) (a .tokens .now) _ (sym (c .before .f .given .1) ∙ e .0))
-
-same-length-5 : tie.Need-same-length-5
-same-length-5 c = search needs
-
-same-length-6 : tie.Need-same-length-6
-same-length-6 c = search needs
-
-returns-3 : tie.Need-returns-3
-returns-3 c =
-    let a = c .before .before .before .before .before .before .before .before .before .before .before .before .before .before .before .before .before .before .before .before .before .before .before .before .before .args in
-    let e = c .before .before .before .before .before .before .before .before .pass-lines .ensures in
-    left-as _ (answers.TooDeep (c .before .number .given .0 .0)) (a .lines .now) (a .tokens .now) _ _ (e .1 .0) (e .1 .1) (deep-answer (a .text .now) (a .lines .now) (a .tokens .now) _ (sym (c .before .number .given .1) ∙ e .0))
+    left-as _ (answers.Refused (c .before .u .given .0 .0)) (a .lines .now) (a .tokens .now) _ _ (e .1 .0) (e .1 .1) (refused-answer _ (a .lines .now) (a .tokens .now) (c .before .u .given .0 .0) (pass-refused (readLines (lineLimitsOf (a .limits)) (a .text .now)) _ (sym (c .before .u .given .1) ∙ e .0)))
 
 pub read-lines-spec : {M : Type 1} → statement M
 read-lines-spec =
@@ -101,14 +89,10 @@ read-lines-spec =
     enum-known-m
     slice-aggregate-store-records
     store-records-requires
-    enum-known-f
-    enum-known-number
+    enum-known-u
     same-length
     same-length-2
     returns
     same-length-3
     same-length-4
-    returns-2
-    same-length-5
-    same-length-6
-    returns-3)
+    returns-2)

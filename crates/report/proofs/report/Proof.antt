@@ -1,73 +1,80 @@
 -- `report::report` meets its contract.
 -- Assumes nothing.
-use mathlib.Core.Path.{sym, _∙_}
-use native.Mathlib.Omega.{arith}
+use Prim.Native.Nat.{ℕ}
+use mathlib.Core.Path.{_≡_, sym, ap, _∙_}
+use mathlib.Core.List.{List}
 use borrow.Author.Needs.{needs}
-use Rattle.report.proofs.Reports.{long-answer, form-answer, clear-answer, deep-answer, printable, failed-next}
+use Rattle.rules.specs.Limits.{Limits}
+use Rattle.rules.specs.Records.{unread, freshReadingBy, freshReading}
+use Rattle.refusals.specs.Unreads.{unreadOf}
+use Rattle.refusals.specs.declared.Unread.{Unread}
+use Rattle.refusals.proofs.Barge.{barge-fits}
+use Rattle.reading.specs.Passes.{passOf}
+use Rattle.reading.specs.declared.Pass.{Pass}
+use Rattle.reading.specs.declared.Pass.the-variants.{Refused}
+use Rattle.reading.proofs.Fills.{pass-refused}
+use Rattle.report.proofs.Reports.{reportable, clear-answer, unread-next}
 use Rattle.report.proofs.report.Statement.{statement}
 use Rattle.report.proofs.report.Tie as tie
 
-returns : tie.Need-returns
-returns c =
-    let a = c .before .before .before .args in
-    long-answer (a .text .now) (a .out .now) (c .if1 .taken) (omega (arith, c .before .before .before .good .0 .0))
+-- The text, opened.
+module _ (x : tie.After-open-text) where
+  abbrev start : tie.Start
+  start = x .before .before .before .before
 
-well-formed-prefix-requires : tie.Need-well-formed-prefix-requires
-well-formed-prefix-requires c κs = search needs
+  abbrev text : List ℕ
+  text = start .args .text .now
 
-returns-2 : tie.Need-returns-2
-returns-2 c =
-    let a = c .before .before .before .before .before .args in
-    form-answer (a .text .now) (a .out .now) (c .before .before .if1 .left) _ (c .before .well-formed-prefix .ensures) (c .if2 .taken)
+  pass-is : (r : Pass) → x .open-text .result ≡ r → r ≡ passOf (freshReading text)
+  unfolding freshReading
+  pass-is r e = sym e ∙ x .open-text .ensures ∙ ap (λ (l : Limits). passOf (freshReadingBy l text)) (x .before .barge-limits .ensures)
 
-count-lines-requires : tie.Need-count-lines-requires
-count-lines-requires c κs = search needs
+  unread-is : (u : Unread) → x .open-text .result ≡ Refused u → freshReading text ≡ unread (unreadOf u)
+  unread-is u e = pass-refused (freshReading text) u (pass-is (Refused u) e)
+
+barge-limits-requires : tie.Need-barge-limits-requires
+barge-limits-requires c κs = search needs
+
+open-text-requires : tie.Need-open-text-requires
+open-text-requires c κs = let b = c .barge-limits in barge-fits (b .result) (b .ensures)
 
 enum-told : tie.Need-enum-told
 enum-told c = search needs
 
-enum-known-f : tie.Need-enum-known-f
-enum-known-f c = search needs
+enum-known-u : tie.Need-enum-known-u
+enum-known-u c = search needs
 
-put-failure-requires : tie.Need-put-failure-requires
-put-failure-requires c κs =
-    let a = c .before .before .before .before .before .before .before .before .before .before .args in
-    printable (a .text .now) (a .out .now) (c .before .before .before .before .before .before .before .if1 .left) _ (c .before .before .before .before .before .before .well-formed-prefix .ensures) (c .before .before .before .before .before .if2 .left) _ (sym (c .before .before .f .given .1) ∙ c .before .before .before .before .count-lines .ensures)
+report-unread-requires : tie.Need-report-unread-requires
+report-unread-requires c κs =
+    let v = c .before .before in
+    let x = v .before .before in
+    reportable (text x) (v .u .given .0 .0) (unread-is x (v .u .given .0 .0) (v .u .given .1))
 
-enum-known-number : tie.Need-enum-known-number
-enum-known-number c = search needs
-
-returns-3 : tie.Need-returns-3
-returns-3 c =
-    let a = c .before .before .before .before .before .before .before .before .args in
-    clear-answer (a .text .now) (a .out .now) (c .before .before .before .before .before .if1 .left) _ (c .before .before .before .before .well-formed-prefix .ensures) (c .before .before .before .if2 .left) _ _ (sym (c .enum-told .given .1) ∙ c .before .before .count-lines .ensures)
+returns : tie.Need-returns
+returns c =
+    let x = c .before .before in
+    clear-answer (text x) (start x .args .out .now) _ _ (pass-is x _ (c .enum-told .given .1))
 
 same-length : tie.Need-same-length
 same-length c = search needs
 
-returns-4 : tie.Need-returns-4
-returns-4 c =
-    let a = c .before .before .before .before .before .before .before .before .before .before .before .before .before .args in
-    failed-next (a .text .now) (a .out .now) (c .before .before .before .before .before .before .before .before .before .before .if1 .left) _ (c .before .before .before .before .before .before .before .before .before .well-formed-prefix .ensures) (c .before .before .before .before .before .before .before .before .if2 .left) (c .before .before .before .before .before .f .given .0 .0) (sym (c .before .before .before .before .before .f .given .1) ∙ c .before .before .before .before .before .before .before .count-lines .ensures) (c .before .before .put-failure .result) _ (c .before .before .put-failure .ensures)
-
-returns-5 : tie.Need-returns-5
-returns-5 c =
-    let a = c .before .before .before .before .before .before .before .before .before .args in
-    deep-answer (a .text .now) (a .out .now) (c .before .before .before .before .before .before .if1 .left) _ (c .before .before .before .before .before .well-formed-prefix .ensures) (c .before .before .before .before .if2 .left) (c .before .number .given .0 .0) (sym (c .before .number .given .1) ∙ c .before .before .before .count-lines .ensures)
+returns-2 : tie.Need-returns-2
+returns-2 c =
+    let r = c .before .before in
+    let v = r .before .before .before in
+    let x = v .before .before in
+    let u = v .u .given .0 .0 in
+    unread-next (text x) (start x .args .out .now) u (unread-is x u (v .u .given .1)) (r .report-unread .result) _ (r .report-unread .ensures)
 
 pub report-spec : {M : Type 1} → statement M
 report-spec =
     tie.close
     (tie.spec
-    returns
-    well-formed-prefix-requires
-    returns-2
-    count-lines-requires
+    barge-limits-requires
+    open-text-requires
     enum-told
-    enum-known-f
-    put-failure-requires
-    enum-known-number
-    returns-3
+    enum-known-u
+    report-unread-requires
+    returns
     same-length
-    returns-4
-    returns-5)
+    returns-2)

@@ -8,28 +8,30 @@ use native.Mathlib.Omega.{arith}
 use lib.ListN.{length}
 use lib.Seq.{length-take-le}
 use borrow.Author.Needs.{needs}
-use Rattle.rules.specs.Line.{failed, overLimit, readLine}
+use Rattle.rules.specs.Limits.{LineLimits}
+use Rattle.rules.specs.Line.{readLine}
 use Rattle.rules.specs.Reading.{Entry, linesOf, readFrom, lineAt, sizeAt}
 use Rattle.rules.specs.Records.{widthWords, lineSize}
 use Rattle.rules.proofs.LoopLaws.{read-end}
 use Rattle.laws.proofs.Puts.{putIf-none}
+use Rattle.refusals.specs.Limits.{lineLimitsOf}
 use Rattle.records.specs.States.{stateOf}
 use Rattle.line.specs.LineCuts.{RoomIn}
 use Rattle.lines.specs.declared.Step.{Step}
 use Rattle.lines.specs.Steps.{StepIs}
 use Rattle.lines.proofs.Lines.{grown, size-inside, next-pass}
 use Rattle.rereading.specs.Rewrites.{MayPut}
-use Rattle.rereading.proofs.Rereads.{ComeTo, come-start, stopped, next-come, stuck, failed-come, deep-come, ended}
+use Rattle.rereading.proofs.Rereads.{ComeTo, come-start, stopped, next-come, stuck, halted, ended}
 use Rattle.rereading.proofs.Rewrites.{PutTo, put-start, lines-kept, tokens-kept, unwritten, all-put, may-next, put-next, may-read, reached}
 use Rattle.rereading.proofs.read_on.Statement.{statement}
 use Rattle.rereading.proofs.read_on.Tie as tie
 
 abbrev Inv-loop : tie.InvT-loop
-Inv-loop class reach index signs keywords text base old m from b kept lines₀ tokens₀ write i first widths₀ q₀ c₀ k₀ j₀ s₀ lines tokens widths q c k j s =
-    (es : List Entry) × ComeTo text old base i m from b kept (stateOf s₀ widths₀) es widths q c k j s × PutTo write base i first lines₀ tokens₀ es lines tokens
+Inv-loop class reach index signs keywords text base old m from b kept lines₀ tokens₀ write i first limits widths₀ q₀ c₀ k₀ j₀ s₀ lines tokens widths q c k j s =
+    (es : List Entry) × ComeTo (lineLimitsOf limits) text old base i m from b kept (stateOf s₀ widths₀) es widths q c k j s × PutTo write base i first lines₀ tokens₀ es lines tokens
 
 abbrev μ-loop : tie.MeasureT-loop
-μ-loop class reach index signs keywords text base old m from b kept lines₀ tokens₀ write i first widths₀ q₀ c₀ k₀ j₀ s₀ lines tokens widths q c k j s = length text - q
+μ-loop class reach index signs keywords text base old m from b kept lines₀ tokens₀ write i first limits widths₀ q₀ c₀ k₀ j₀ s₀ lines tokens widths q c k j s = length text - q
 
 -- The loop, with what the function was called with.
 module _ (l : tie.At-loop Inv-loop μ-loop) where
@@ -39,7 +41,10 @@ module _ (l : tie.At-loop Inv-loop μ-loop) where
   abbrev text : List ℕ
   text = start .args .text .now
 
-  abbrev come : let a = start .args in let x = l .loop in ComeTo text (a .old .now) (a .base) (a .i) (a .m) (a .from) (a .b) (a .kept) (stateOf (a .start) (a .widths .now)) (x .inv .0) (x .widths) (x .q) (x .c) (x .k) (x .j) (x .s)
+  abbrev lim : LineLimits
+  lim = lineLimitsOf (start .args .limits)
+
+  abbrev come : let a = start .args in let x = l .loop in ComeTo lim text (a .old .now) (a .base) (a .i) (a .m) (a .from) (a .b) (a .kept) (stateOf (a .start) (a .widths .now)) (x .inv .0) (x .widths) (x .q) (x .c) (x .k) (x .j) (x .s)
   come = l .loop .inv .1
 
   abbrev put : let a = start .args in let x = l .loop in PutTo (a .write) (a .base) (a .i) (a .first) (a .lines .now) (a .tokens .now) (x .inv .0) (x .lines) (x .tokens)
@@ -48,7 +53,7 @@ module _ (l : tie.At-loop Inv-loop μ-loop) where
   few-bytes : start .args .base + length text ≤ 1_048_576
   few-bytes = start .pre .1 .1 .1 .1 .1 .0 .0
 
-  may : let a = start .args in MayPut (a .write) (readFrom 16 (stateOf (a .start) (a .widths .now)) (linesOf text)) (a .base + length text) (a .kept) (a .i) (a .first) (length (a .lines .now)) (length (a .tokens .now))
+  may : let a = start .args in MayPut (a .write) (readFrom lim (stateOf (a .start) (a .widths .now)) (linesOf text)) (a .base + length text) (a .kept) (a .i) (a .first) (length (a .lines .now)) (length (a .tokens .now))
   may = start .pre .1 .1 .1 .1 .1 .1 .1 .1
 
   first-levels : length (stateOf (start .args .start) (start .args .widths .now) .widths) ≤ widthWords
@@ -72,7 +77,7 @@ module _ (l : tie.At-loop Inv-loop μ-loop) where
 
 -- The next line's token, and its room where the pass writes.
 next-room : (i : tie.In-loop Inv-loop μ-loop) → let l = i .before in let a = start l .args in let x = l .loop in
-    (a .first + x .k ≤ 3_000_000) × (a .write ≡ true → (lineSize * (a .i + x .c) + lineSize ≤ length (a .lines .now)) × RoomIn (readLine 16 (stateOf (x .s) (x .widths)) (lineAt (text l) (x .q))) (a .first + x .k) (length (a .tokens .now)))
+    (a .first + x .k ≤ 3_000_000) × (a .write ≡ true → (lineSize * (a .i + x .c) + lineSize ≤ length (a .lines .now)) × RoomIn (readLine (lim l) (stateOf (x .s) (x .widths)) (lineAt (text l) (x .q))) (a .first + x .k) (length (a .tokens .now)))
 next-room i =
     let l = i .before in
     may-next (come l .pass) (i .loop-test .taken) (may l) (far l .3)
@@ -92,7 +97,7 @@ module _ (n : tie.After-next-line Inv-loop μ-loop) where
   more = compared .before .loop-test .taken
 
   abbrev widths-now : List ℕ
-  widths-now = n .next-line .last .1 .1 .1 .1 .1 .1 .1 .1 .1 .1 .1 .1 .1 .0
+  widths-now = n .next-line .last .1 .1 .1 .1 .1 .1 .1 .1 .1 .1 .1 .1 .1 .1 .0
 
   kept-lines : length (n .next-line .last .1 .1 .1 .1 .1 .1 .1 .1 .0) ≡ length (start here .args .lines .now)
   kept-lines = n .next-line .kept .1 .1 .1 .1 .1 .1 .1 .1 .0 ∙ lines-kept (put here)
@@ -101,10 +106,10 @@ module _ (n : tie.After-next-line Inv-loop μ-loop) where
   kept-tokens = n .next-line .kept .1 .1 .1 .1 .1 .1 .1 .1 .1 .0 ∙ tokens-kept (put here)
 
   kept-wide : length widths-now ≡ length (here .loop .widths)
-  kept-wide = n .next-line .kept .1 .1 .1 .1 .1 .1 .1 .1 .1 .1 .1 .1 .1 .0
+  kept-wide = n .next-line .kept .1 .1 .1 .1 .1 .1 .1 .1 .1 .1 .1 .1 .1 .1 .0
 
   abbrev Gave : Step → Type 0
-  Gave = let a = start here .args in let x = here .loop in StepIs widths-now (a .base + x .q) (a .i + x .c + 1) (x .q + sizeAt (text here) (x .q)) (readLine 16 (stateOf (x .s) (x .widths)) (lineAt (text here) (x .q)))
+  Gave = let a = start here .args in let x = here .loop in StepIs widths-now (a .base + x .q) (a .i + x .c + 1) (x .q + sizeAt (text here) (x .q)) (readLine (lim here) (stateOf (x .s) (x .widths)) (lineAt (text here) (x .q)))
 
   gave : (r : Step) → n .next-line .result ≡ r → Gave r
   gave r e = subst Gave e (n .next-line .ensures .0)
@@ -112,17 +117,14 @@ module _ (n : tie.After-next-line Inv-loop μ-loop) where
 abbrev read-at : tie.After-known-told Inv-loop μ-loop → tie.After-next-line Inv-loop μ-loop
 read-at c = c .before .before .before .before .before .before .before .before .before
 
-abbrev failed-at : tie.After-known-told2 Inv-loop μ-loop → tie.After-next-line Inv-loop μ-loop
-failed-at c = c .before .before .before .before .before .before .before .before .before
-
-abbrev deep-at : tie.After-enum-told Inv-loop μ-loop → tie.After-next-line Inv-loop μ-loop
-deep-at c = c .before .before .before .before .before .before .before .before
+abbrev halted-at : tie.After-known-told2 Inv-loop μ-loop → tie.After-next-line Inv-loop μ-loop
+halted-at c = c .before .before .before .before .before .before .before .before .before
 
 loop-holds : tie.Need-loop-holds Inv-loop μ-loop
 loop-holds c =
     let s = c .before .before .before .before .before in
     let p = s .pre .1 .1 .1 .1 .1 in
-    ([], come-start (s .args .widths .now) (s .args .start) (p .1 .1 .0 .1 .0) (p .1 .1 .0 .1 .1) (p .0 .1 .1 .0), put-start)
+    ([], come-start (s .args .widths .now) (s .args .start) (p .1 .1 .0 .1 .0) (p .1 .1 .0 .1 .1) (p .1 .1 .0 .1 .2) (p .0 .1 .1 .0), put-start)
 
 add-old-line : tie.Need-add-old-line Inv-loop μ-loop
 add-old-line c = omega (arith, far (c .before))
@@ -187,7 +189,7 @@ next-line-requires c κs =
               p .1 .1 .1 .1 .0,
               (
                 (i .loop-test .taken, (few-bytes l, (omega (arith, far l), room .0))),
-                ((omega (arith, far l), (come l .pass .few, come l .pass .wide)), rw (lines-kept (put l), tokens-kept (put l)) (room .1)),
+                ((omega (arith, far l), (come l .pass .few, come l .pass .wide, come l .room)), rw (lines-kept (put l), tokens-kept (put l)) (room .1)),
               ),
             ),
           ),
@@ -228,70 +230,43 @@ loop-again c =
 
 -- It does not read.
 
-enum-known-f : tie.Need-enum-known-f Inv-loop μ-loop
-enum-known-f c = search needs
+enum-known-u : tie.Need-enum-known-u Inv-loop μ-loop
+enum-known-u c = search needs
 
 same-length-4 : tie.Need-same-length-4 Inv-loop μ-loop
-same-length-4 c = kept-lines (failed-at c)
+same-length-4 c = kept-lines (halted-at c)
 
 same-length-5 : tie.Need-same-length-5 Inv-loop μ-loop
-same-length-5 c = kept-tokens (failed-at c)
+same-length-5 c = kept-tokens (halted-at c)
 
 same-length-6 : tie.Need-same-length-6 Inv-loop μ-loop
-same-length-6 c = kept-wide (failed-at c) ∙ same-widths (here (failed-at c))
+same-length-6 c = kept-wide (halted-at c) ∙ same-widths (here (halted-at c))
 
 returns-2 : tie.Need-returns-2 Inv-loop μ-loop
 returns-2 c =
-    let n = failed-at c in
+    let n = halted-at c in
     let l = here n in
-    let x = gave n _ (c .before .f .given .1) in
-    let unput = may-read (may l) (stuck (come l) (more n) (failed (x .0)) (x .1)) in
+    let x = gave n _ (c .before .u .given .1) in
+    let unput = may-read (may l) (stuck (come l) (more n) (x .0) (x .1)) in
     let w = unwritten (put l) unput _ _ _ _ (n .next-line .ensures .1 .0) (n .next-line .ensures .1 .1) _ in
-    (failed-come (come l) (more n) (x .0) _ (x .1) (x .2), (tt, (w .line-words, w .token-words)))
-
-enum-told : tie.Need-enum-told Inv-loop μ-loop
-enum-told c = search needs
-
-add-t42 : tie.Need-add-t42 Inv-loop μ-loop
-add-t42 c = omega (arith, far (here (deep-at c)))
-
-add-t43 : tie.Need-add-t43 Inv-loop μ-loop
-add-t43 c = omega (arith, far (here (deep-at c)))
-
-same-length-7 : tie.Need-same-length-7 Inv-loop μ-loop
-same-length-7 c = kept-lines (deep-at c)
-
-same-length-8 : tie.Need-same-length-8 Inv-loop μ-loop
-same-length-8 c = kept-tokens (deep-at c)
-
-same-length-9 : tie.Need-same-length-9 Inv-loop μ-loop
-same-length-9 c = kept-wide (deep-at c) ∙ same-widths (here (deep-at c))
-
-returns-3 : tie.Need-returns-3 Inv-loop μ-loop
-returns-3 c =
-    let n = deep-at c in
-    let l = here n in
-    let x = gave n _ (c .enum-told .given .1) in
-    let unput = may-read (may l) (stuck (come l) (more n) overLimit x) in
-    let w = unwritten (put l) unput _ _ _ _ (n .next-line .ensures .1 .0) (n .next-line .ensures .1 .1) _ in
-    (deep-come (come l) (more n) x, (tt, (w .line-words, w .token-words)))
+    (halted (come l) (more n) (x .0) (x .1) _ (x .2), (tt, (w .line-words, w .token-words)))
 
 -- The end.
 
-same-length-10 : tie.Need-same-length-10 Inv-loop μ-loop
-same-length-10 c = lines-kept (put (c .before))
+same-length-7 : tie.Need-same-length-7 Inv-loop μ-loop
+same-length-7 c = lines-kept (put (c .before))
 
-same-length-11 : tie.Need-same-length-11 Inv-loop μ-loop
-same-length-11 c = tokens-kept (put (c .before))
+same-length-8 : tie.Need-same-length-8 Inv-loop μ-loop
+same-length-8 c = tokens-kept (put (c .before))
 
-same-length-12 : tie.Need-same-length-12 Inv-loop μ-loop
-same-length-12 c = same-widths (c .before)
+same-length-9 : tie.Need-same-length-9 Inv-loop μ-loop
+same-length-9 c = same-widths (c .before)
 
-returns-4 : tie.Need-returns-4 Inv-loop μ-loop
-returns-4 c =
+returns-3 : tie.Need-returns-3 Inv-loop μ-loop
+returns-3 c =
     let l = c .before in
     let h = c .loop-test .left in
-    let e = read-end 16 _ (text l) _ _ _ (come l .pass .to) h in
+    let e = read-end (lim l) _ (text l) _ _ _ (come l .pass .to) h in
     let w = all-put (put l) e in
     (ended (come l) h, ((reached e, come l .pass .few), (w .line-words, w .token-words)))
 
@@ -318,19 +293,12 @@ read-on-spec =
     add-k
     loop-less
     loop-again
-    enum-known-f
+    enum-known-u
     same-length-4
     same-length-5
     same-length-6
     returns-2
-    enum-told
-    add-t42
-    add-t43
     same-length-7
     same-length-8
     same-length-9
-    returns-3
-    same-length-10
-    same-length-11
-    same-length-12
-    returns-4)
+    returns-3)

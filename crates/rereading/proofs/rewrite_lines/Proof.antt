@@ -10,15 +10,17 @@ use lib.ListN.{length, replicate}
 use types.Run.{OneOf}
 use denote.Enum.Declared.{tagOf}
 use borrow.Author.Needs.{needs}
+use Rattle.rules.specs.Limits.{LineLimits}
 use Rattle.rules.specs.Line.{State}
 use Rattle.rules.specs.Reading.{Reading, linesOf, readFrom}
+use Rattle.refusals.specs.Limits.{lineLimitsOf}
 use Rattle.rules.specs.Records.{lineSize}
 use Rattle.records.specs.States.{stateOf}
 use Rattle.rereading.specs.Rereads.{RereadIs}
 use Rattle.rereading.specs.Rewrites.{MayPut, EndsIn}
 use Rattle.rereading.specs.declared.Reread.{Reread}
 use Rattle.rereading.proofs.Reread.{the-type}
-use Rattle.rereading.specs.declared.Reread.the-variants.{Stops, Ends, Fails, TooDeep}
+use Rattle.rereading.specs.declared.Reread.the-variants.{Stops, Ends, Refused}
 use Rattle.rereading.proofs.Rewrites.{may-read}
 use Rattle.rereading.proofs.rewrite_lines.Statement.{statement}
 use Rattle.rereading.proofs.rewrite_lines.Tie as tie
@@ -30,18 +32,20 @@ module _ (s : tie.Start) where
   abbrev z : State
   z = stateOf (s .args .start) (s .args .widths .now)
 
+  abbrev lim : LineLimits
+  lim = lineLimitsOf (s .args .limits)
+
   abbrev end : ℕ
   end = s .args .base + length text
 
-  may-put : let a = s .args in MayPut true (readFrom 16 z (linesOf text)) end end (a .i) (a .first) (length (a .lines .now)) (length (a .tokens .now))
+  may-put : let a = s .args in MayPut true (readFrom lim z (linesOf text)) end end (a .i) (a .first) (length (a .lines .now)) (length (a .tokens .now))
   may-put = record { ends = λ _. omega arith; room = λ _. s .pre .1 .1 .1 .1 .1 .1 .1 .1; few = inr (s .pre .1 .1 .1 .1 .1 .1 .1 .0) }
 
   -- the text reads and keeps no tail, so it is read to its end
-  comes-to-end : (old : List ℕ) (r : Reread) → RereadIs text old (s .args .base) (s .args .i) 0 0 0 end z r → OneOf (0 ∷ 2 ∷ 3 ∷ []) (tagOf the-type r) → ⊥
+  comes-to-end : (old : List ℕ) (r : Reread) → RereadIs lim text old (s .args .base) (s .args .i) 0 0 0 end z r → OneOf (0 ∷ 2 ∷ []) (tagOf the-type r) → ⊥
   comes-to-end old (Stops c k q j) x o = omega (arith, x .1 .0, x .1 .1 .1 .0)
-  comes-to-end old (Ends c k y) x o = ⊎-elim (λ (e : 1 ≡ 0). omega (arith, e)) (⊎-elim (λ (e : 1 ≡ 2). omega (arith, e)) (λ (e : 1 ≡ 3). omega (arith, e))) o
-  comes-to-end old (Fails r) x o = may-read may-put (x .0 .2) refl
-  comes-to-end old (TooDeep l) x o = may-read may-put (x .0 .1) refl
+  comes-to-end old (Ends c k y) x o = ⊎-elim (λ (e : 1 ≡ 0). omega (arith, e)) (λ (e : 1 ≡ 2). omega (arith, e)) o
+  comes-to-end old (Refused u) x o = may-read may-put (x .0 .2) refl
 
 abbrev start : tie.After-read-on → tie.Start
 start r = r .before .before .before .before .before .before .before .before .before
@@ -74,8 +78,8 @@ returns : tie.Need-returns
 returns c =
     let r = c .before .before .before .before .before .before .before .before .before in
     let a = start r .args in
-    let widths = r .read-on .last .1 .1 .1 .1 .1 .1 .1 .1 .1 .1 .1 .1 .1 .1 .1 .1 .1 .0 in
-    (subst (EndsIn (readFrom 16 (stateOf (a .start) (a .widths .now)) (linesOf (a .text .now))) widths) (c .before .s .given .1) (r .read-on .ensures .1 .0), r .read-on .ensures .1 .1)
+    let widths = r .read-on .last .1 .1 .1 .1 .1 .1 .1 .1 .1 .1 .1 .1 .1 .1 .1 .1 .1 .1 .0 in
+    (subst (EndsIn (readFrom (lim (start r)) (stateOf (a .start) (a .widths .now)) (linesOf (a .text .now))) widths) (c .before .s .given .1) (r .read-on .ensures .1 .0), r .read-on .ensures .1 .1)
 
 same-length-4 : tie.Need-same-length-4
 same-length-4 c = search needs

@@ -1,10 +1,12 @@
 -- `scanning::put_scan` meets its contract.
 -- Assumes nothing.
+use Prim.Native.Nat.{_≤_}
 use mathlib.Core.Path.{sym, ap, _∙_}
 use native.Mathlib.Omega.{arith}
+use lib.ListN.{length}
 use Rattle.reading.specs.Answers.{readNumbers}
 use Rattle.scanning.proofs.Sizes.{refused-room}
-use Rattle.scanning.proofs.Scans.{long-scanned, refused-scanned, never-short, page-room, page-scanned, failure-room, failure-scanned}
+use Rattle.scanning.proofs.Scans.{long-scanned, shows, never-short, page-room, page-scanned}
 use borrow.Author.Needs.{needs}
 use Rattle.scanning.proofs.put_scan.Statement.{statement}
 use Rattle.scanning.proofs.put_scan.Tie as tie
@@ -36,6 +38,17 @@ slice-aggregate-put-page c = search needs
 put-page-requires : tie.Need-put-page-requires
 put-page-requires c κs = page-room (c .before .before .before .before .before .before .before .before .before .before .before .before .before .args .text .now) _ _ (omega (arith, c .before .before .before .before .before .before .before .before .before .before .if1 .left)) (omega arith) (omega arith) _ _ _ _ (sym (ap readNumbers (c .before .before .before .n .given .1)) ∙ c .before .before .before .before .before .before .before .read .ensures .0) (c .before .before .before .before .before .before .before .read .ensures .1 .1) (c .before .before .before .before .before .before .before .before .before .before .before .before .before .pre)
 
+enum-known-u : tie.Need-enum-known-u
+enum-known-u c = search needs
+
+put-unread-requires : tie.Need-put-unread-requires
+put-unread-requires c κs =
+    let r = c .before .before .before .before .before .before in
+    let e = r .before .before .before in
+    let s = e .before .before .before in
+    let small : length (s .args .text .now) ≤ 512 = omega (arith, e .if1 .left) in
+    ((s .pre, small), shows (s .args .text .now) _ _ small (omega arith) (omega arith) (c .before .before .u .given .0 .0) (sym (ap readNumbers (c .before .before .u .given .1)) ∙ r .read .ensures .0))
+
 enum-told : tie.Need-enum-told
 enum-told c = search needs
 
@@ -48,30 +61,6 @@ enum-told-2 c = search needs
 put-refused-requires-3 : tie.Need-put-refused-requires-3
 put-refused-requires-3 c κs = refused-room (c .before .before .before .before .before .before .before .before .before .before .before .args .out .now) _ (c .before .before .before .before .before .before .before .before .before .before .before .pre) (omega arith)
 
-enum-known-f : tie.Need-enum-known-f
-enum-known-f c = search needs
-
-put-failure-requires : tie.Need-put-failure-requires
-put-failure-requires c κs = failure-room (c .before .before .before .before .before .before .before .before .before .before .before .before .args .text .now) _ _ (omega (arith, c .before .before .before .before .before .before .before .before .before .if1 .left)) (omega arith) (omega arith) (c .before .before .f .given .0 .0) (sym (ap readNumbers (c .before .before .f .given .1)) ∙ c .before .before .before .before .before .before .read .ensures .0) (omega arith) (c .before .before .before .before .before .before .before .before .before .before .before .before .pre)
-
-enum-told-3 : tie.Need-enum-told-3
-enum-told-3 c = search needs
-
-put-refused-requires-4 : tie.Need-put-refused-requires-4
-put-refused-requires-4 c κs = refused-room (c .before .before .before .before .before .before .before .before .before .before .before .args .out .now) _ (c .before .before .before .before .before .before .before .before .before .before .before .pre) (omega arith)
-
-enum-told-4 : tie.Need-enum-told-4
-enum-told-4 c = search needs
-
-put-refused-requires-5 : tie.Need-put-refused-requires-5
-put-refused-requires-5 c κs = refused-room (c .before .before .before .before .before .before .before .before .before .before .before .args .out .now) _ (c .before .before .before .before .before .before .before .before .before .before .before .pre) (omega arith)
-
-enum-told-5 : tie.Need-enum-told-5
-enum-told-5 c = search needs
-
-put-refused-requires-6 : tie.Need-put-refused-requires-6
-put-refused-requires-6 c κs = refused-room (c .before .before .before .before .before .before .before .before .before .before .before .args .out .now) _ (c .before .before .before .before .before .before .before .before .before .before .before .pre) (omega arith)
-
 same-length-2 : tie.Need-same-length-2
 same-length-2 c = search needs
 
@@ -82,37 +71,19 @@ same-length-3 : tie.Need-same-length-3
 same-length-3 c = search needs
 
 returns-3 : tie.Need-returns-3
-returns-3 c = refused-scanned (c .before .before .before .before .before .before .before .before .before .before .before .before .before .before .args .text .now) _ _ (omega (arith, c .before .before .before .before .before .before .before .before .before .before .before .if1 .left)) (omega arith) (omega arith) 1 _ (sym (ap readNumbers (c .before .before .before .before .enum-told .given .1)) ∙ c .before .before .before .before .before .before .before .before .read .ensures .0) (omega arith) (c .before .before .before .before .before .before .before .before .before .before .before .before .before .before .pre) (c .before .before .put-refused2 .ensures)
+returns-3 c = search needs
 
 same-length-4 : tie.Need-same-length-4
 same-length-4 c = search needs
 
 returns-4 : tie.Need-returns-4
-returns-4 c = refused-scanned (c .before .before .before .before .before .before .before .before .before .before .before .before .before .before .args .text .now) _ _ (omega (arith, c .before .before .before .before .before .before .before .before .before .before .before .if1 .left)) (omega arith) (omega arith) 2 _ (sym (ap readNumbers (c .before .before .before .before .enum-told2 .given .1)) ∙ c .before .before .before .before .before .before .before .before .read .ensures .0) (omega arith) (c .before .before .before .before .before .before .before .before .before .before .before .before .before .before .pre) (c .before .before .put-refused3 .ensures)
+returns-4 c = absurd (never-short (c .before .before .before .before .before .before .before .before .before .before .before .before .before .before .args .text .now) _ _ (omega (arith, c .before .before .before .before .before .before .before .before .before .before .before .if1 .left)) (omega arith) (omega arith) 3 _ (sym (ap readNumbers (c .before .before .before .before .enum-told .given .1)) ∙ c .before .before .before .before .before .before .before .before .read .ensures .0))
 
 same-length-5 : tie.Need-same-length-5
 same-length-5 c = search needs
 
 returns-5 : tie.Need-returns-5
-returns-5 c = failure-scanned (c .before .before .before .before .before .before .before .before .before .before .before .before .before .before .before .args .text .now) _ _ (omega (arith, c .before .before .before .before .before .before .before .before .before .before .before .before .if1 .left)) (omega arith) (omega arith) (c .before .before .before .before .before .f .given .0 .0) (sym (ap readNumbers (c .before .before .before .before .before .f .given .1)) ∙ c .before .before .before .before .before .before .before .before .before .read .ensures .0) (omega arith) (c .before .before .before .before .before .before .before .before .before .before .before .before .before .before .before .pre) (c .before .before .put-failure .ensures)
-
-same-length-6 : tie.Need-same-length-6
-same-length-6 c = search needs
-
-returns-6 : tie.Need-returns-6
-returns-6 c = refused-scanned (c .before .before .before .before .before .before .before .before .before .before .before .before .before .before .args .text .now) _ _ (omega (arith, c .before .before .before .before .before .before .before .before .before .before .before .if1 .left)) (omega arith) (omega arith) 4 _ (sym (ap readNumbers (c .before .before .before .before .enum-told3 .given .1)) ∙ c .before .before .before .before .before .before .before .before .read .ensures .0) (omega arith) (c .before .before .before .before .before .before .before .before .before .before .before .before .before .before .pre) (c .before .before .put-refused4 .ensures)
-
-same-length-7 : tie.Need-same-length-7
-same-length-7 c = search needs
-
-returns-7 : tie.Need-returns-7
-returns-7 c = absurd (never-short (c .before .before .before .before .before .before .before .before .before .before .before .before .before .before .args .text .now) _ _ (omega (arith, c .before .before .before .before .before .before .before .before .before .before .before .if1 .left)) (omega arith) (omega arith) 3 _ (sym (ap readNumbers (c .before .before .before .before .enum-told4 .given .1)) ∙ c .before .before .before .before .before .before .before .before .read .ensures .0))
-
-same-length-8 : tie.Need-same-length-8
-same-length-8 c = search needs
-
-returns-8 : tie.Need-returns-8
-returns-8 c = absurd (never-short (c .before .before .before .before .before .before .before .before .before .before .before .before .before .before .args .text .now) _ _ (omega (arith, c .before .before .before .before .before .before .before .before .before .before .before .if1 .left)) (omega arith) (omega arith) 4 _ (sym (ap readNumbers (c .before .before .before .before .enum-told5 .given .1)) ∙ c .before .before .before .before .before .before .before .before .read .ensures .0))
+returns-5 c = absurd (never-short (c .before .before .before .before .before .before .before .before .before .before .before .before .before .before .args .text .now) _ _ (omega (arith, c .before .before .before .before .before .before .before .before .before .before .before .if1 .left)) (omega arith) (omega arith) 4 _ (sym (ap readNumbers (c .before .before .before .before .enum-told2 .given .1)) ∙ c .before .before .before .before .before .before .before .before .read .ensures .0))
 
 pub put-scan-spec : {M : Type 1} → statement M
 put-scan-spec =
@@ -127,18 +98,12 @@ put-scan-spec =
     enum-known-n
     slice-aggregate-put-page
     put-page-requires
+    enum-known-u
+    put-unread-requires
     enum-told
     put-refused-requires-2
     enum-told-2
     put-refused-requires-3
-    enum-known-f
-    put-failure-requires
-    enum-told-3
-    put-refused-requires-4
-    enum-told-4
-    put-refused-requires-5
-    enum-told-5
-    put-refused-requires-6
     same-length-2
     returns-2
     same-length-3
@@ -146,10 +111,4 @@ put-scan-spec =
     same-length-4
     returns-4
     same-length-5
-    returns-5
-    same-length-6
-    returns-6
-    same-length-7
-    returns-7
-    same-length-8
-    returns-8)
+    returns-5)

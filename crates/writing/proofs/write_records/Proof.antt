@@ -7,6 +7,8 @@ use native.Mathlib.Omega.{arith}
 use lib.ListN.{length, take, drop, length-drop, length-take}
 use Rattle.rules.specs.Line.{State}
 use Rattle.rules.specs.Reading.{Reading, linesOf, readFrom}
+use Rattle.refusals.specs.Limits.{lineLimitsOf}
+use Rattle.refusals.proofs.Barge.{barge-line, barge-fits}
 use Rattle.records.specs.States.{stateOf}
 use Rattle.rereading.specs.Rewrites.{Reaches}
 use Rattle.records.specs.Words.{lineWord}
@@ -30,8 +32,11 @@ tokens-moved c = c .before .before .before .before .before .before .before .befo
 abbrev lines-moved : tie.After-keyword-table → tie.After-move-lines
 lines-moved c = c .before .before .before .before .before .before .before
 
+abbrev limited : tie.After-rewrite-lines → tie.After-barge-limits
+limited c = c .before .before .before .before .before .before .before .before .before .before
+
 abbrev tabled : tie.After-rewrite-lines → tie.After-keyword-table
-tabled c = c .before .before .before .before .before .before .before .before .before .before
+tabled c = limited c .before
 
 abbrev rewritten : tie.After-put-end → tie.After-rewrite-lines
 rewritten c = c .before .before .before .before .before .before .before .before .before
@@ -129,32 +134,38 @@ sign-table-requires c κs = search needs
 keyword-table-requires : tie.Need-keyword-table-requires
 keyword-table-requires c κs = search needs
 
+barge-limits-requires : tie.Need-barge-limits-requires
+barge-limits-requires c κs = search needs
+
 -- The lines read again.
 
 abbrev state-at : tie.After-keyword-table → tie.After-load-state
 state-at c = loaded (tokens-moved (lines-moved c))
 
 sub-rewrite-lines : tie.Need-sub-rewrite-lines
-sub-rewrite-lines c = part-lines (planned (start (state-at (c .before .before .before .before .before)))) .0
+sub-rewrite-lines c = part-lines (planned (start (state-at (c .before .before .before .before .before .before)))) .0
 
 part-rewrite-lines-start : tie.Need-part-rewrite-lines-start
-part-rewrite-lines-start c = part-lines (planned (start (state-at (c .before .before .before .before .before)))) .0
+part-rewrite-lines-start c = part-lines (planned (start (state-at (c .before .before .before .before .before .before)))) .0
 
 part-rewrite-lines-end : tie.Need-part-rewrite-lines-end
-part-rewrite-lines-end c = new-le (planned (start (state-at (c .before .before .before .before .before))))
+part-rewrite-lines-end c = new-le (planned (start (state-at (c .before .before .before .before .before .before))))
 
 slice-aggregate-rewrite-lines : tie.Need-slice-aggregate-rewrite-lines
-slice-aggregate-rewrite-lines c = sym (state-at (c .before .before .before .before .before .before .before .before .before) .load-state .kept .1 .1 .0)
+slice-aggregate-rewrite-lines c = sym (state-at (c .before .before .before .before .before .before .before .before .before .before) .load-state .kept .1 .1 .0)
 
 -- the lines read again, as the code has the part of the text and the state, are the planned ones
-part-read : (c : tie.After-load-state)
-    → let a = start c .args in let E = a .edited .now in let base = a .p .base in
-    readFrom 16 (stateOf (c .load-state .result) (c .load-state .last .1 .1 .0)) (linesOf (take (a .p .new - base) (drop base E))) ≡ plannedLines E (a .lines .now) (a .p)
-part-read c = λ x. readFrom 16 (c .load-state .ensures .0 x) (part-lines (planned (start c)) .1 x)
+part-read : (b : tie.After-barge-limits)
+    → let c = state-at (b .before) in let a = start c .args in let E = a .edited .now in let base = a .p .base in
+    readFrom (lineLimitsOf (b .barge-limits .result .line)) (stateOf (c .load-state .result) (c .load-state .last .1 .1 .0)) (linesOf (take (a .p .new - base) (drop base E))) ≡ plannedLines E (a .lines .now) (a .p)
+part-read b =
+    let c = state-at (b .before) in
+    λ x. readFrom (barge-line (b .barge-limits .result) (b .barge-limits .ensures) x) (c .load-state .ensures .0 x) (part-lines (planned (start c)) .1 x)
 
 rewrite-lines-requires : tie.Need-rewrite-lines-requires
 rewrite-lines-requires c κs =
-    let t = c .before .before .before .before .before .before .before .before .before in
+    let b = c .before .before .before .before .before .before .before .before .before in
+    let t = b .before in
     let ml = lines-moved t in
     let mt = tokens-moved ml in
     let l = loaded mt in
@@ -175,8 +186,8 @@ rewrite-lines-requires c κs =
               (
                 (omega (arith, length-take (s .args .p .new - base) (drop base E), length-drop base E, s .pre .0 .0, pl .base-le), pl .number),
                 (
-                  (omega (arith, d, pl .depth), (l .load-state .ensures .1, l .load-state .kept .1 .1 .0)),
-                  (few-from pl (part-read l) (s .pre .1 .1), room-moved pl (part-read l) (ml .move-lines .kept .0) (mt .move-tokens .kept .0) (s .pre .1 .1)),
+                  (omega (arith, d, pl .depth), (l .load-state .ensures .1, l .load-state .kept .1 .1 .0, barge-fits (b .barge-limits .result) (b .barge-limits .ensures) .1)),
+                  (few-from pl (part-read b) (s .pre .1 .1), room-moved pl (part-read b) (ml .move-lines .kept .0) (mt .move-tokens .kept .0) (s .pre .1 .1)),
                 ),
               ),
             ),
@@ -191,7 +202,7 @@ abbrev began : tie.After-rewrite-lines → tie.Start
 began c = start (state-at (tabled c))
 
 abbrev widths-at : tie.After-rewrite-lines → List ℕ
-widths-at c = c .rewrite-lines .last .1 .1 .1 .1 .1 .1 .1 .1 .1 .1 .1 .0
+widths-at c = c .rewrite-lines .last .1 .1 .1 .1 .1 .1 .1 .1 .1 .1 .1 .1 .0
 
 -- the state that those lines reach, as the code has it
 reached : (c : tie.After-rewrite-lines) → Reached (plannedLines (began c .args .edited .now) (began c .args .lines .now) (began c .args .p)) (c .rewrite-lines .result) (widths-at c)
@@ -199,8 +210,8 @@ reached c =
     let l = state-at (tabled c) in
     record {
       few = c .rewrite-lines .ensures .0 .1;
-      wide = c .rewrite-lines .kept .1 .1 .1 .1 .1 .1 .1 .1 .1 .1 .1 .0 ∙ l .load-state .kept .1 .1 .0;
-      is = subst (λ (r : Reading). Reaches r (stateOf (c .rewrite-lines .result) (widths-at c))) (part-read l) (c .rewrite-lines .ensures .0 .0);
+      wide = c .rewrite-lines .kept .1 .1 .1 .1 .1 .1 .1 .1 .1 .1 .1 .1 .0 ∙ l .load-state .kept .1 .1 .0;
+      is = subst (λ (r : Reading). Reaches r (stateOf (c .rewrite-lines .result) (widths-at c))) (part-read (limited c)) (c .rewrite-lines .ensures .0 .0);
     }
 
 -- the buffers are as long as they were
@@ -234,7 +245,7 @@ returns c =
     let ml = lines-moved (tabled r) in
     let mt = tokens-moved ml in
     let s = began r in
-    let read = part-read (loaded mt) in (
+    let read = part-read (limited r) in (
       lines-written (planned s) (reached r) (s .args .lines .now) _ read (ml .move-lines .ensures) (r .rewrite-lines .ensures .1 .0) (e .put-end .ensures .0),
       tokens-written (planned s) (reached r) (s .args .tokens .now) _ read (mt .move-tokens .ensures) (r .rewrite-lines .ensures .1 .1) (e .put-end .ensures .1),
     )
@@ -269,6 +280,7 @@ write-records-spec =
     sign-index-requires
     sign-table-requires
     keyword-table-requires
+    barge-limits-requires
     sub-rewrite-lines
     part-rewrite-lines-start
     part-rewrite-lines-end
