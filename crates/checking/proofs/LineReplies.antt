@@ -6,9 +6,9 @@ use mathlib.Core.Bool.{Bool, true, false}
 use mathlib.Core.List.{List}
 use lib.ListN.{take, drop}
 use Rattle.rules.specs.Lists.{begins}
-use Rattle.rules.specs.Limits.{LineLimits}
+use Rattle.rules.specs.Limits.{maxLevels, LineLimits}
 use Rattle.rules.specs.Line.{State, levels, levelsOf, cutsFrom, Halt, lineHalts, readLine}
-use Rattle.rules.specs.Records.{widthWords, tokenSize, tokenWords}
+use Rattle.rules.specs.Records.{tokenSize, tokenWords}
 use Rattle.line.specs.States.{leading}
 use Rattle.line.specs.LineCuts.{lineCutsOf, tokensOf, wholeLine, lineReadOf, tokensIn, counted, countedOf}
 use Rattle.line.specs.declared.Lead.{Lead}
@@ -40,7 +40,7 @@ module _ (lim : LineLimits) (st : State) (line : List ℕ) where
   pub halted-line : (h : Halt) (b : Bool) → readLine lim st line ≡ lineHalts h → differs ≡ agreedIf b (counted (readLine lim st line))
   halted-line h b e = ap (λ x. agreedIf b (counted x)) (sym e)
 
-pub agrees-within : (lead : Lead) (b : Bool) (x : LineCuts) (r : SameLine) → r ≡ sameLineIf b (lineReadOf lead x) → lead .levels ≤ widthWords → LevelsWithin r
+pub agrees-within : (lead : Lead) (b : Bool) (x : LineCuts) (r : SameLine) → r ≡ sameLineIf b (lineReadOf lead x) → lead .levels ≤ maxLevels → LevelsWithin r
 agrees-within lead b x r e h = subst LevelsWithin (sym e) (go b x)
   where
     go : (y : Bool) (z : LineCuts) → LevelsWithin (sameLineIf y (lineReadOf lead z))

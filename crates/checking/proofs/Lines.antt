@@ -11,8 +11,8 @@ use Rattle.rules.specs.Lists.{begins}
 use Rattle.rules.specs.Line as rules-line
 use Rattle.rules.specs.Line.{initial, Token, dedents, LineReply, lineReads, lineHalts, readLine}
 use Rattle.rules.specs.Reading.{Line, linesOf, content, Entry, entry, readFrom, lineAt, sizeAt}
-use Rattle.rules.specs.Limits.{LineLimits}
-use Rattle.rules.specs.Records.{widthWords, lineSize, tokenSize, lineNeed, tokenNeed, lineRecord, tokenWords, header, readLines}
+use Rattle.rules.specs.Limits.{maxLevels, LineLimits}
+use Rattle.rules.specs.Records.{lineSize, tokenSize, lineNeed, tokenNeed, lineRecord, tokenWords, header, readLines}
 use Rattle.rules.specs.Page.{isRecorded}
 use Rattle.rules.proofs.LineLaws.{firstSize-le, lines-at, content-first}
 use Rattle.records.specs.States.{stateOf}
@@ -51,7 +51,7 @@ module _ (lim : LineLimits) (t lines tokens : List ℕ) (count total : ℕ) wher
     pub pass : PassTo lim t initial es widths p m k s
     pub left : rest p m k (stateOf s widths) (linesOf (drop p t)) ≡ answer
 
-  pub agrees-start : length lines ≡ lineNeed count → length tokens ≡ tokenNeed total → (widths : List ℕ) → length widths ≡ widthWords
+  pub agrees-start : length lines ≡ lineNeed count → length tokens ≡ tokenNeed total → (widths : List ℕ) → length widths ≡ maxLevels
       → AgreesTo widths 0 0 0 (record { depth = 0; arrow = false; levels = 0 })
   agrees-start wide long widths h = record { es = []; pass = pass-start lim t widths (record { depth = 0; arrow = false; levels = 0 }) (omega arith) h; left = sym (whole-same lim lines tokens count total t wide long) }
 
@@ -99,7 +99,7 @@ module _ {lim : LineLimits} {t lines tokens : List ℕ} {count total : ℕ} {wid
                 by true j f = let n : _≡_ {A = ℕ} 0 1 = cc in absurd (omega arith)
                 by false j f = sym (turn-other lim lines tokens count total p m k z w line others ts (read-as (lineReads ts w) i) j) ∙ left-line
 
-        pub next-line : true ≡ begins (lineRecord p k z) (drop (lineSize * m) lines) → (n : ℕ) (s′ : State) → r ≡ Agrees n s′ → LevelsWithin r → length widths′ ≡ widthWords
+        pub next-line : true ≡ begins (lineRecord p k z) (drop (lineSize * m) lines) → (n : ℕ) (s′ : State) → r ≡ Agrees n s′ → LevelsWithin r → length widths′ ≡ maxLevels
             → (q : ℕ) → q ≡ p + sizeAt t p → AgreesTo lim t lines tokens count total widths′ q (m + 1) (k + n) s′
         next-line er n s′ i few wide q at =
             let y : rules-line.State = stateOf s′ widths′ in

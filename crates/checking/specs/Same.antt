@@ -4,7 +4,7 @@ use Prim.Native.Nat.{ℕ, _≤_}
 use mathlib.Core.Bool.{Bool, true, false}
 use mathlib.Core.List.{List}
 use Rattle.rules.specs.Line.{State}
-use Rattle.rules.specs.Records.{widthWords}
+use Rattle.rules.specs.Limits.{maxLevels}
 use Rattle.records.specs.States.{stateOf}
 use Rattle.line.specs.LineCuts.{Counted, countedReads, countedHalts}
 use Rattle.line.specs.declared.LineCuts.{LineCuts}
@@ -45,5 +45,5 @@ agreedOf (same-line.Agrees n s) ws = agrees n (stateOf s ws)
 agreedOf same-line.Differs ws = differs
 
 abbrev pub LevelsWithin : SameLine → Type 0
-LevelsWithin (same-line.Agrees n s) = s .levels ≤ widthWords
+LevelsWithin (same-line.Agrees n s) = s .levels ≤ maxLevels
 LevelsWithin same-line.Differs = Unit {0}

@@ -6,7 +6,8 @@ ghost use lib.ListN.{length, drop};
 ghost use Rattle.rules.specs.Lists.{begins};
 ghost use Rattle.rules.specs.Line.{dedents, cutsFrom, readLine};
 ghost use Rattle.refusals.specs.Limits.{lineLimitsOf};
-ghost use Rattle.rules.specs.Records.{widthWords, lineSize, tokenSize, lineRecord, tokenWords, header, readLines, freshReading};
+ghost use Rattle.rules.specs.Limits.{maxLevels};
+ghost use Rattle.rules.specs.Records.{lineSize, tokenSize, lineRecord, tokenWords, header, readLines, freshReading};
 ghost use Rattle.rules.specs.Page.{isRecorded};
 ghost use Rattle.rules.specs.Check.{checkReply};
 ghost use Rattle.header.specs.Pages.{page};
@@ -55,7 +56,7 @@ fn same_dedents(tokens: &[u32], k: usize, count: usize, position: u32, number: u
 
 // The records from k on begin with the Indent or the Dedents at a line's start.
 fn same_leading(tokens: &[u32], k: usize, lead: line::Lead, position: u32, number: u32) -> bool
-    requires { ⌜ (k ≤ 4_194_304) × (lead .closes ≤ widthWords) ⌝ }
+    requires { ⌜ (k ≤ 4_194_304) × (lead .closes ≤ maxLevels) ⌝ }
     ensures { λ r. ⌜ r ≡ begins (tokenWords position number (leading lead)) (drop (tokenSize * k) (now (tokens .entry))) ⌝ }
 {
     if lead.opens {
@@ -155,7 +156,7 @@ fn tokens_agree(
     requires { ⌜ now signs ≡ signTable ⌝ }
     requires { ⌜ now keywords ≡ keywordTable ⌝ }
     requires { ⌜ (position + length (now line) ≤ 1_048_576) × ((depth ≤ 4_194_304) × (k ≤ 3_000_000)) ⌝ }
-    requires { ⌜ lead .closes ≤ widthWords ⌝ }
+    requires { ⌜ lead .closes ≤ maxLevels ⌝ }
     ensures { λ r. ⌜ r ≡ sameLineIf (begins (tokenWords position number (tokensOf (wholeLine lead (now (line .entry)) (cutsFrom 0 0 (now (line .entry)))))) (drop (tokenSize * k) (now (tokens .entry)))) (lineReadOf lead (lineCutsOf depth (cutsFrom 0 0 (now (line .entry))))) ⌝ }
 {
     if !same_leading(tokens, k, lead, position, number) {
@@ -215,7 +216,7 @@ fn line_agrees(
     requires { ⌜ now signs ≡ signTable ⌝ }
     requires { ⌜ now keywords ≡ keywordTable ⌝ }
     requires { ⌜ (position + length (now line) ≤ 1_048_576) × ((s .depth ≤ 4_194_304) × (k ≤ 3_000_000)) ⌝ }
-    requires { ⌜ (length (now widths) ≡ widthWords) × (s .levels ≤ widthWords) × (limits .levels ≤ widthWords) ⌝ }
+    requires { ⌜ (length (now widths) ≡ maxLevels) × (s .levels ≤ maxLevels) × (limits .levels ≤ maxLevels) ⌝ }
     ensures { λ r. ⌜ agreedOf r (now (widths .exit)) ≡ agreedIf (begins (tokenWords position number (tokensIn (readLine (lineLimitsOf limits) (stateOf s (now (widths .entry))) (now (line .entry))))) (drop (tokenSize * k) (now (tokens .entry)))) (counted (readLine (lineLimitsOf limits) (stateOf s (now (widths .entry))) (now (line .entry)))) ⌝ }
     ensures { λ r. ⌜ LevelsWithin r ⌝ }
 {
@@ -251,7 +252,7 @@ fn end_agrees(
     s: records::State,
     widths: &[u32],
 ) -> bool
-    requires { ⌜ (length (now widths) ≡ widthWords) × ((s .levels ≤ widthWords) × ((m ≤ 1_048_576) × (k ≤ 4_194_304))) ⌝ }
+    requires { ⌜ (length (now widths) ≡ maxLevels) × ((s .levels ≤ maxLevels) × ((m ≤ 1_048_576) × (k ≤ 4_194_304))) ⌝ }
     ensures { λ r. ⌜ r ≡ (begins (lineRecord p k (stateOf s (now (widths .entry)))) (drop (lineSize * m) (now (lines .entry))) && begins (tokenWords p (m + 1) (dedents (s .levels))) (drop (tokenSize * k) (now (tokens .entry)))) ⌝ }
 {
     if records::same_line(lines, m, p, k as u32, s, widths) {
@@ -280,7 +281,7 @@ fn lines_agree(
     requires { ⌜ now index ≡ signIndexTable ⌝ }
     requires { ⌜ now signs ≡ signTable ⌝ }
     requires { ⌜ now keywords ≡ keywordTable ⌝ }
-    requires { ⌜ (length (now text) ≤ 1_048_576) × (length (now widths) ≡ widthWords) × (limits .levels ≤ widthWords) ⌝ }
+    requires { ⌜ (length (now text) ≤ 1_048_576) × (length (now widths) ≡ maxLevels) × (limits .levels ≤ maxLevels) ⌝ }
     requires { ⌜ (length (now lines) ≡ lineSize * (count + 1)) × (length (now tokens) ≡ tokenSize * total) ⌝ }
     ensures { λ r. ⌜ r ≡ isRecorded (record { head = header (length (now (text .entry))) count total; lines = now (lines .entry); tokens = now (tokens .entry) }) (readLines (lineLimitsOf limits) (now (text .entry))) ⌝ }
 {

@@ -12,9 +12,8 @@ use lib.Seq.{length-take-le, take-suc-set, drop-set-lt}
 use borrow.Author.Tests.{lt-ltb, le-ltb, eq-eqb, ne-eqb}
 use Rattle.rules.specs.Lists.{trimEnd, lastD, overwrite}
 use Rattle.rules.specs.Kinds.{Indent}
-use Rattle.rules.specs.Limits.{LineLimits}
+use Rattle.rules.specs.Limits.{maxLevels, LineLimits}
 use Rattle.rules.specs.Line.{tokenAt, dedents, Levels, levels, unequal, beyond, opened, closed, compared}
-use Rattle.rules.specs.Records.{widthWords}
 use Rattle.line.specs.States.{widthsAfter}
 
 -- n widths stored at the front of others, which they agree with further on
@@ -26,7 +25,7 @@ front-stored n xs ws h e = rw (length-take-le n xs h, ← e, take-append-drop)
 abbrev Is : LineLimits → (ws : List ℕ) (n w : ℕ) → Levels → (after : List ℕ) → Type 0
 Is lim ws n w l after = (l ≡ compared lim w (take n ws)) × (after ≡ widthsAfter (compared lim w (take n ws)) ws)
 
-module _ (lim : LineLimits) (ws : List ℕ) (n w : ℕ) (len : length ws ≡ widthWords) (few : n ≤ widthWords) (room : lim .levels ≤ widthWords) where
+module _ (lim : LineLimits) (ws : List ℕ) (n w : ℕ) (len : length ws ≡ maxLevels) (few : n ≤ maxLevels) (room : lim .levels ≤ maxLevels) where
   count : length (take n ws) ≡ n
   count = length-take-le n ws (omega arith)
 

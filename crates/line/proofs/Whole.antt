@@ -11,9 +11,9 @@ use lib.ListN.{length, take, length-append, length-replicate}
 use Rattle.rules.specs.Lists.{if_then_else_}
 use Rattle.rules.specs.Kinds.{Indent, Newline}
 use Rattle.rules.specs.Failure.{Failure, failure, badIndent}
-use Rattle.rules.specs.Limits.{LineLimits}
+use Rattle.rules.specs.Limits.{maxLevels, LineLimits}
 use Rattle.rules.specs.Line.{Token, tokenAt, dedents, Cuts, cuts, stops, cutsFrom, depthAfter, arrowAfter, State, Levels, levels, unequal, beyond, indentSize, levelsOf, failed, overLimit, LineReply, lineReads, lineHalts, withCuts, withLevels, readLine}
-use Rattle.rules.specs.Records.{widthWords, tokenSize, tokenWords}
+use Rattle.rules.specs.Records.{tokenSize, tokenWords}
 use Rattle.rules.proofs.RecordLaws.{length-tokenWords}
 use Rattle.rules.proofs.BoundLaws.{cuts-ok}
 use Rattle.laws.specs.Puts.{putIf}
@@ -45,10 +45,10 @@ pub indent-words : (p l : ℕ) → tokenWords p l (tokenAt Indent 0 0 ∷ []) �
 unfolding tokenWords
 indent-words p l = rw add-zero
 
-pub lead-le : (lead : Lead) → lead .closes ≤ widthWords → length (leading lead) ≤ widthWords
+pub lead-le : (lead : Lead) → lead .closes ≤ maxLevels → length (leading lead) ≤ maxLevels
 lead-le lead h = go (lead .opens)
   where
-    go : (b : Bool) → length (if b then tokenAt Indent 0 0 ∷ [] else dedents (lead .closes)) ≤ widthWords
+    go : (b : Bool) → length (if b then tokenAt Indent 0 0 ∷ [] else dedents (lead .closes)) ≤ maxLevels
     go true = omega arith
     go false = omega (arith, length-replicate (lead .closes) (tokenAt 91 0 0))
 
@@ -170,7 +170,7 @@ module _ (lim : LineLimits) (st : State) (line : List ℕ) where
     pub line-room : (k n : ℕ) → RoomIn (readLine lim st line) k n → RoomFor (wholeLine lead line (cutsFrom 0 0 line)) k n
     line-room k n h = reply-room (cutsFrom 0 0 line) k n (subst (λ (x : LineReply). RoomIn x k n) known h)
 
-pub levels-within : (lead : Lead) (x : LineCuts) (r : LineRead) → r ≡ lineReadOf lead x → lead .levels ≤ widthWords → LevelsWithin r
+pub levels-within : (lead : Lead) (x : LineCuts) (r : LineRead) → r ≡ lineReadOf lead x → lead .levels ≤ maxLevels → LevelsWithin r
 levels-within lead x r e h = subst LevelsWithin (sym e) (go x)
   where
     go : (y : LineCuts) → LevelsWithin (lineReadOf lead y)

@@ -10,7 +10,8 @@ use Rattle.rules.specs.Kinds.{Implies, Newline}
 use Rattle.rules.specs.Line.{Token, tokenAt, Cuts, cuts, stops, depthAfter, arrowAfter, State, Halt, failed, overLimit, LineReply, lineReads, lineHalts}
 use Rattle.cut.specs.Cuts.{failureOf}
 use Rattle.cut.specs.declared.Failure.{Failure}
-use Rattle.rules.specs.Records.{widthWords, tokenSize}
+use Rattle.rules.specs.Limits.{maxLevels}
+use Rattle.rules.specs.Records.{tokenSize}
 use Rattle.records.specs.States.{stateOf}
 use Rattle.line.specs.States.{leading, depthBy}
 use Rattle.line.specs.declared.Lead.{Lead}
@@ -91,6 +92,6 @@ countedOf (Fails f) ws = countedHalts (failed (failureOf f))
 countedOf (OverLimit number) ws = countedHalts (overLimit number)
 
 abbrev pub LevelsWithin : LineRead → Type 0
-LevelsWithin (Reads n s) = s .levels ≤ widthWords
+LevelsWithin (Reads n s) = s .levels ≤ maxLevels
 LevelsWithin (Fails f) = Unit {0}
 LevelsWithin (OverLimit number) = Unit {0}

@@ -8,7 +8,7 @@ use lib.ListN.{length, take}
 use Rattle.rules.specs.Lists.{if_then_else_, ascii, begins, overwrite}
 use Rattle.rules.specs.Kinds.{LParen, RParen, Indent}
 use Rattle.rules.specs.Line as rules-line
-use Rattle.rules.specs.Records.{widthWords}
+use Rattle.rules.specs.Limits.{maxLevels}
 use Rattle.line.specs.declared.Lead.{Lead}
 use Rattle.line.specs.declared.Compared.{Compared}
 use Rattle.line.specs.declared.Compared.the-variants.{Levels, Unequal, Beyond}
@@ -30,7 +30,7 @@ widthsAfter (rules-line.Levels.beyond number) ws = ws
 
 -- at most 16 levels open and as many closed
 abbrev pub Within : Compared → Type 0
-Within (Levels l) = (l .levels ≤ widthWords) × (l .closes ≤ widthWords)
+Within (Levels l) = (l .levels ≤ maxLevels) × (l .closes ≤ maxLevels)
 Within Unequal = Unit {0}
 Within (Beyond number) = Unit {0}
 

@@ -7,7 +7,8 @@ ghost use lib.ListN.{length, drop, take};
 ghost use Rattle.rules.specs.Lists.{ascii, begins, run, trimEnd, lastD};
 ghost use Rattle.rules.specs.Tables.{isBlank, letterClass};
 ghost use Rattle.rules.specs.Line.{movedBy, isSpace, isTab, indentWidth, indentSize, isBlankLine, isCompared, compared, levelsOf, dedents, cutsFrom, readLine};
-ghost use Rattle.rules.specs.Records.{widthWords, tokenSize, tokenWords};
+ghost use Rattle.rules.specs.Limits.{maxLevels};
+ghost use Rattle.rules.specs.Records.{tokenSize, tokenWords};
 ghost use lib.Dec.{ltb, eqb};
 ghost use Rattle.cut.specs.Cuts.{failureOf};
 ghost use Rattle.spelling.specs.Bytes.{classTable, reachTable};
@@ -173,7 +174,7 @@ fn width_behind(line: &[u8], spaces: usize) -> u32
 
 // The innermost width, 0 at base.
 fn innermost(widths: &[u32], levels: usize) -> u32
-    requires { ⌜ (length (now widths) ≡ widthWords) × (levels ≤ widthWords) ⌝ }
+    requires { ⌜ (length (now widths) ≡ maxLevels) × (levels ≤ maxLevels) ⌝ }
     ensures { λ r. ⌜ r ≡ lastD (take levels (now (widths .entry))) 0 ⌝ }
 {
     if levels == 0 {
@@ -184,7 +185,7 @@ fn innermost(widths: &[u32], levels: usize) -> u32
 
 // The levels that are left when those wider than the line are popped.
 fn levels_left(widths: &[u32], levels: usize, width: u32) -> usize
-    requires { ⌜ (length (now widths) ≡ widthWords) × (levels ≤ widthWords) ⌝ }
+    requires { ⌜ (length (now widths) ≡ maxLevels) × (levels ≤ maxLevels) ⌝ }
     ensures { λ r. ⌜ (r ≤ levels) × (take r (now (widths .entry)) ≡ trimEnd (ltb width) (take levels (now (widths .entry)))) ⌝ }
 {
     let mut left = levels;
@@ -204,7 +205,7 @@ fn compare_levels(
     levels: usize,
     width: u32,
 ) -> Compared
-    requires { ⌜ (length (now widths) ≡ widthWords) × (levels ≤ widthWords) × (limits .levels ≤ widthWords) ⌝ }
+    requires { ⌜ (length (now widths) ≡ maxLevels) × (levels ≤ maxLevels) × (limits .levels ≤ maxLevels) ⌝ }
     ensures { λ r. ⌜ comparedOf r (now (widths .exit)) ≡ compared (lineLimitsOf limits) width (take levels (now (widths .entry))) ⌝ }
     ensures { λ r. ⌜ Within r ⌝ }
     ensures { λ _. ⌜ now (widths .exit) ≡ widthsAfter (compared (lineLimitsOf limits) width (take levels (now (widths .entry)))) (now (widths .entry)) ⌝ }
@@ -253,7 +254,7 @@ pub fn levels_of(
     s: records::State,
     widths: &mut [u32],
 ) -> Compared
-    requires { ⌜ (length (now line) ≤ 1_048_576) × (length (now widths) ≡ widthWords) × (s .levels ≤ widthWords) × (limits .levels ≤ widthWords) ⌝ }
+    requires { ⌜ (length (now line) ≤ 1_048_576) × (length (now widths) ≡ maxLevels) × (s .levels ≤ maxLevels) × (limits .levels ≤ maxLevels) ⌝ }
     requires { ⌜ spaces ≡ run isSpace (now line) ⌝ }
     ensures { λ r. ⌜ comparedOf r (now (widths .exit)) ≡ levelsOf (lineLimitsOf limits) (stateOf s (now (widths .entry))) (now (line .entry)) ⌝ }
     ensures { λ r. ⌜ Within r ⌝ }
@@ -497,7 +498,7 @@ fn put_leading(
     position: u32,
     number: u32,
 ) -> usize
-    requires { ⌜ (k ≤ 4_000_000) × (lead .closes ≤ widthWords) × (write ≡ true → tokenSize * (k + length (leading lead)) ≤ length (now tokens)) ⌝ }
+    requires { ⌜ (k ≤ 4_000_000) × (lead .closes ≤ maxLevels) × (write ≡ true → tokenSize * (k + length (leading lead)) ≤ length (now tokens)) ⌝ }
     ensures { λ r. ⌜ r ≡ length (leading lead) ⌝ }
     ensures { λ _. ⌜ now (tokens .exit) ≡ putIf write (now (tokens .entry)) (tokenSize * k) (tokenWords position number (leading lead)) ⌝ }
 {
@@ -536,7 +537,7 @@ fn cut_after(
     requires { ⌜ now signs ≡ signTable ⌝ }
     requires { ⌜ now keywords ≡ keywordTable ⌝ }
     requires { ⌜ (place .position + length (now line) ≤ 1_048_576) × ((depth ≤ 4_194_304) × (place .first ≤ 3_000_000)) ⌝ }
-    requires { ⌜ (lead .closes ≤ widthWords) × (spaces ≡ run isSpace (now line)) ⌝ }
+    requires { ⌜ (lead .closes ≤ maxLevels) × (spaces ≡ run isSpace (now line)) ⌝ }
     requires { ⌜ (place .write ≡ true → RoomFor (wholeLine lead (now line) (cutsFrom 0 0 (now line))) (place .first) (length (now tokens))) ⌝ }
     ensures { λ r. ⌜ r ≡ lineReadOf lead (lineCutsOf depth (cutsFrom 0 0 (now (line .entry)))) ⌝ }
     ensures { λ _. ⌜ now (tokens .exit) ≡ putIf (place .write) (now (tokens .entry)) (tokenSize * place .first) (tokenWords (place .position) (place .number) (tokensOf (wholeLine lead (now (line .entry)) (cutsFrom 0 0 (now (line .entry)))))) ⌝ }
@@ -615,7 +616,7 @@ pub fn read_line(
     requires { ⌜ now signs ≡ signTable ⌝ }
     requires { ⌜ now keywords ≡ keywordTable ⌝ }
     requires { ⌜ (position + length (now line) ≤ 1_048_576) × ((s .depth ≤ 4_194_304) × (k ≤ 3_000_000)) ⌝ }
-    requires { ⌜ (length (now widths) ≡ widthWords) × (s .levels ≤ widthWords) × (limits .levels ≤ widthWords) ⌝ }
+    requires { ⌜ (length (now widths) ≡ maxLevels) × (s .levels ≤ maxLevels) × (limits .levels ≤ maxLevels) ⌝ }
     requires { ⌜ (write ≡ true → RoomIn (readLine (lineLimitsOf limits) (stateOf s (now widths)) (now line)) k (length (now tokens))) ⌝ }
     ensures { λ r. ⌜ countedOf r (now (widths .exit)) ≡ counted (readLine (lineLimitsOf limits) (stateOf s (now (widths .entry))) (now (line .entry))) ⌝ }
     ensures { λ r. ⌜ LevelsWithin r ⌝ }

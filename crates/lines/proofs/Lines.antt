@@ -10,11 +10,10 @@ use lib.ListN.{length, take, drop, length-append, length-drop, length-take}
 use lib.Seq.{length-take-le}
 use borrow.Author.Tests.{ltb-true, ltb-false}
 use Rattle.rules.specs.Lists.{if_then_else_, run}
-use Rattle.rules.specs.Limits.{LineLimits}
+use Rattle.rules.specs.Limits.{maxLevels, LineLimits}
 use Rattle.rules.specs.Line as rules-line
 use Rattle.rules.specs.Line.{initial, Token, Halt, failed, overLimit, LineReply, lineReads, lineHalts, readLine}
 use Rattle.rules.specs.Reading.{notLF, Entry, entry, tokenSum, lineAt, sizeAt}
-use Rattle.rules.specs.Records.{widthWords}
 use Rattle.rules.proofs.LineLaws.{firstSize-le, firstSize-lf, firstSize-end, firstSize-some}
 use Rattle.rules.proofs.ReadingLaws.{tokenSum-append}
 use Rattle.rules.proofs.LoopLaws.{ReadTo, read-start, read-line}
@@ -67,10 +66,10 @@ pub record PassTo (lim : LineLimits) (t : List ℕ) (z₀ : rules-line.State) (e
   pub inside : p ≤ length t
   pub count : length es ≡ m
   pub sum : tokenSum es ≡ k
-  pub few : s .levels ≤ widthWords
-  pub wide : length widths ≡ widthWords
+  pub few : s .levels ≤ maxLevels
+  pub wide : length widths ≡ maxLevels
 
-pub pass-start : (lim : LineLimits) (t widths : List ℕ) (s : State) → s .levels ≤ widthWords → length widths ≡ widthWords → PassTo lim t (stateOf s widths) [] widths 0 0 0 s
+pub pass-start : (lim : LineLimits) (t widths : List ℕ) (s : State) → s .levels ≤ maxLevels → length widths ≡ maxLevels → PassTo lim t (stateOf s widths) [] widths 0 0 0 s
 unfolding tokenSum
 pass-start lim t widths s few wide =
     record { to = read-start lim (stateOf s widths) t; inside = omega arith; count = refl; sum = refl; few = few; wide = wide }
@@ -94,7 +93,7 @@ module _ {lim : LineLimits} {t : List ℕ} {z₀ : rules-line.State} {es : List 
 
     -- the next line is read
     pub next-pass : (ts : List Token) (s′ : State) (widths′ : List ℕ) (n q : ℕ) → readLine lim z (lineAt t p) ≡ lineReads ts (stateOf s′ widths′) → n ≡ length ts → q ≡ p + sizeAt t p
-        → s′ .levels ≤ widthWords → length widths′ ≡ widthWords → PassTo lim t z₀ (es ++ (entry z (sizeAt t p) ts ∷ [])) widths′ q (m + 1) (k + n) s′
+        → s′ .levels ≤ maxLevels → length widths′ ≡ maxLevels → PassTo lim t z₀ (es ++ (entry z (sizeAt t p) ts ∷ [])) widths′ q (m + 1) (k + n) s′
     unfolding tokenSum
     next-pass ts s′ widths′ n q e hn hq few′ wide′ =
         let x : Entry = entry z (sizeAt t p) ts in
@@ -108,7 +107,7 @@ module _ {lim : LineLimits} {t : List ℕ} {z₀ : rules-line.State} {es : List 
         }
 
 -- how far a reading from the first state has come
-pub small : {lim : LineLimits} {t : List ℕ} {es : List Entry} {widths : List ℕ} {p m k : ℕ} {s : State} → PassTo lim t initial es widths p m k s → lim .levels ≤ 16 → length t ≤ 1_048_576
+pub small : {lim : LineLimits} {t : List ℕ} {es : List Entry} {widths : List ℕ} {p m k : ℕ} {s : State} → PassTo lim t initial es widths p m k s → lim .levels ≤ maxLevels → length t ≤ 1_048_576
     → (m ≤ p) × (k + s .levels ≤ 2 * p) × (s .depth ≤ 4_194_304)
 small {lim} {t} {es} {widths} {p} {m} {k} {s} v room h =
     let b = read-small lim room t p es (stateOf s widths) h (v .inside) (v .to) in

@@ -9,7 +9,8 @@ ghost use Rattle.rules.specs.Lists.{if_then_else_, run};
 ghost use Rattle.rules.specs.Failure.{detailOf, failureRecord};
 ghost use Rattle.rules.specs.Line.{readLine};
 ghost use Rattle.rules.specs.Reading.{notLF, lineAt, sizeAt};
-ghost use Rattle.rules.specs.Records.{widthWords, lineSize, tokenSize, lineRecord, tokenWords};
+ghost use Rattle.rules.specs.Limits.{maxLevels};
+ghost use Rattle.rules.specs.Records.{lineSize, tokenSize, lineRecord, tokenWords};
 ghost use Rattle.spelling.specs.Bytes.{classTable, reachTable};
 ghost use Rattle.spelling.specs.Rows.{keywordTable};
 ghost use Rattle.spelling.specs.Signs.{signTable, signIndexTable};
@@ -102,7 +103,7 @@ pub fn next_line(
     requires { ⌜ now signs ≡ signTable ⌝ }
     requires { ⌜ now keywords ≡ keywordTable ⌝ }
     requires { ⌜ (at < length (now text)) × ((base + length (now text) ≤ 1_048_576) × ((m ≤ 1_048_576) × (k ≤ 3_000_000))) ⌝ }
-    requires { ⌜ (s .depth ≤ 4_194_304) × ((s .levels ≤ widthWords) × (length (now widths) ≡ widthWords) × (limits .levels ≤ 16)) ⌝ }
+    requires { ⌜ (s .depth ≤ 4_194_304) × ((s .levels ≤ maxLevels) × (length (now widths) ≡ maxLevels) × (limits .levels ≤ maxLevels)) ⌝ }
     requires { ⌜ (write ≡ true → (lineSize * m + lineSize ≤ length (now lines)) × RoomIn (readLine (lineLimitsOf limits) (stateOf s (now widths)) (lineAt (now text) at)) k (length (now tokens))) ⌝ }
     ensures { λ r. ⌜ StepIs (now (widths .exit)) (base + at) (m + 1) (at + sizeAt (now (text .entry)) at) (readLine (lineLimitsOf limits) (stateOf s (now (widths .entry))) (lineAt (now (text .entry)) at)) r ⌝ }
     ensures { λ _. ⌜ now (lines .exit) ≡ putIf write (now (lines .entry)) (lineSize * m) (lineRecord (base + at) k (stateOf s (now (widths .entry)))) ⌝ }

@@ -13,7 +13,7 @@ use borrow.Author.Tests.{lt-ltb, le-ltb, ltb-true, ltb-false}
 use Rattle.rules.specs.Lists.{if_then_else_}
 use Rattle.rules.specs.Line.{State, initial, tokenAt, Halt, failed, overLimit}
 use Rattle.rules.specs.Reading.{linesOf, countLF, Entry, Reading, reads, halts, readFrom, byteSum, tokenSum, stateAt}
-use Rattle.rules.specs.Limits.{maxBytes, maxLevels, barge, bargeLine}
+use Rattle.rules.specs.Limits.{maxLevels, maxBytes, barge, bargeLine}
 use Rattle.rules.specs.Replies as rules-replies
 use Rattle.rules.specs.Replies.{reading, short, linesBuffer, tokensBuffer, refusedIf, firstOf, unless, isTooLong}
 use Rattle.rules.specs.Records.{widthWords, lineSize, tokenSize, lineNeed, tokenNeed, stateWords, lineRecords, endEntry, withEnd, Records, recordsOf, recordTests, haltRefusal, recordedBy, recorded, unread, readLines, Behind}
@@ -166,7 +166,7 @@ module _ {pg : Page} {ed : Edit} (ok : Editable pg ed) where
           bytes = refl;
         }
 
-    levels-word : (x : ℕ) → x ≤ m → lineWord lines x 4 ≤ widthWords
+    levels-word : (x : ℕ) → x ≤ m → lineWord lines x 4 ≤ maxLevels
     unfolding stateWords
     levels-word x h =
         let w = state-words lines x (omega (arith, ok .fits .lines)) (stateAt es end x) in
@@ -353,7 +353,7 @@ module _ {pg : Page} {ed : Edit} (ok : Editable pg ed) where
     Gives = RereadIs bargeLine (drop base u) lines base i m i b (a + length w) z
 
     -- how much was read again
-    lines-small : (c x q : ℕ) (l : Lines bargeLine (drop base u) z c x q) → (c ≤ q) × (x ≤ widthWords + 2 * q) × (x + length (l .after .widths) ≤ widthWords + 2 * q)
+    lines-small : (c x q : ℕ) (l : Lines bargeLine (drop base u) z c x q) → (c ≤ q) × (x ≤ maxLevels + 2 * q) × (x + length (l .after .widths) ≤ maxLevels + 2 * q)
     lines-small c x q l =
         let rest : List ℕ = drop base u in
         let s = read-sizes bargeLine z (take c (linesOf rest)) (l .es) (l .after) (l .reads-are) in
@@ -365,7 +365,7 @@ module _ {pg : Page} {ed : Edit} (ok : Editable pg ed) where
           bytes = l .bytes;
         } in
         let g = read-grown bargeLine z rest q (l .es) (l .after) to in
-        let v : length (z .widths) ≤ widthWords = omega (arith, length-take (lineWord lines i 4) (take widthWords (drop (lineSize * i + 5) lines)), us .levels) in
+        let v : length (z .widths) ≤ maxLevels = omega (arith, length-take (lineWord lines i 4) (take widthWords (drop (lineSize * i + 5) lines)), us .levels) in
         (omega (arith, g .lines, l .count), omega (arith, g .tokens, l .tokens), omega (arith, g .tokens, l .tokens))
 
     -- as the plans need it

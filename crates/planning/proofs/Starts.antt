@@ -14,7 +14,7 @@ use mir.Val.{boolByte}
 use borrow.Author.Tests.{le-leb, lt-leb, leb-true}
 use Rattle.rules.specs.Lists.{if_then_else_, bit}
 use Rattle.rules.specs.Reading.{isLF, countLF}
-use Rattle.rules.specs.Records.{widthWords}
+use Rattle.rules.specs.Limits.{maxLevels}
 use Rattle.rules.proofs.ListLaws.{and-true}
 use Rattle.records.specs.Words.{lineWord}
 use Rattle.planning.specs.Starts.{isUsable}
@@ -61,7 +61,7 @@ module _ (lines : List ℕ) (i k a : ℕ) where
     pub number : i ≤ lineWord lines i 0
     pub first : lineWord lines i 1 ≤ k
     pub depth : lineWord lines i 2 ≤ lineWord lines i 0
-    pub levels : lineWord lines i 4 ≤ widthWords
+    pub levels : lineWord lines i 4 ≤ maxLevels
 
   pub usable-true : isUsable lines i k a ≡ true → Usable
   usable-true h =
@@ -74,7 +74,7 @@ module _ (lines : List ℕ) (i k a : ℕ) where
         number = leb-true i (lineWord lines i 0) (x2 .0);
         first = leb-true (lineWord lines i 1) k (x3 .0);
         depth = leb-true (lineWord lines i 2) (lineWord lines i 0) (x4 .0);
-        levels = leb-true (lineWord lines i 4) widthWords (x4 .1);
+        levels = leb-true (lineWord lines i 4) maxLevels (x4 .1);
       }
 
   pub true-usable : Usable → isUsable lines i k a ≡ true
@@ -84,7 +84,7 @@ module _ (lines : List ℕ) (i k a : ℕ) where
         le-leb i (lineWord lines i 0) (u .number),
         le-leb (lineWord lines i 1) k (u .first),
         le-leb (lineWord lines i 2) (lineWord lines i 0) (u .depth),
-        le-leb (lineWord lines i 4) widthWords (u .levels),
+        le-leb (lineWord lines i 4) maxLevels (u .levels),
       )
 
   -- the tests, one after the other
@@ -104,7 +104,7 @@ module _ (lines : List ℕ) (i k a : ℕ) where
         not-depth h =
             rw (le-leb (lineWord lines i 0) a s, le-leb i (lineWord lines i 0) n, le-leb (lineWord lines i 1) k f, lt-leb (lineWord lines i 2) (lineWord lines i 0) h)
 
-        pub only-levels : lineWord lines i 2 ≤ lineWord lines i 0 → isUsable lines i k a ≡ leb (lineWord lines i 4) widthWords
+        pub only-levels : lineWord lines i 2 ≤ lineWord lines i 0 → isUsable lines i k a ≡ leb (lineWord lines i 4) maxLevels
         only-levels h =
             rw (le-leb (lineWord lines i 0) a s, le-leb i (lineWord lines i 0) n, le-leb (lineWord lines i 1) k f, le-leb (lineWord lines i 2) (lineWord lines i 0) h)
 

@@ -9,9 +9,9 @@ use lib.ListN.{length, take, drop}
 use Rattle.rules.specs.Lists.{if_then_else_}
 use Rattle.rules.specs.Line.{State, initial}
 use Rattle.rules.specs.Reading.{linesOf, countLF, Entry, Reading, reads, halts, readFrom, byteSum, tokenSum}
-use Rattle.rules.specs.Limits.{bargeLine, LimitNumber}
+use Rattle.rules.specs.Limits.{maxLevels, bargeLine, LimitNumber}
 use Rattle.rules.specs.Replies.{Refusal, reading, short, unfit, linesBuffer, tokensBuffer}
-use Rattle.rules.specs.Records.{widthWords, lineSize, tokenSize, withEnd, readLines, Behind}
+use Rattle.rules.specs.Records.{lineSize, tokenSize, withEnd, readLines, Behind}
 use Rattle.rules.specs.Page.{Page, fits, pageText, pageRecords, Faithful}
 use Rattle.rules.specs.StopRule.{Edit, edited, rereadCount}
 use Rattle.rules.specs.Edit.{Outcome, late, stored}
@@ -116,7 +116,7 @@ pub record Planned (u lines : List ℕ) (m k : ℕ) (p : Plan) : Type 0 where
   pub number : p .i ≤ p .base
   pub base-le : p .base ≤ length u
   pub depth : lineWord lines (p .i) 2 ≤ p .base
-  pub levels : lineWord lines (p .i) 4 ≤ widthWords
+  pub levels : lineWord lines (p .i) 4 ≤ maxLevels
   pub reads-as : ReadsAs p (plannedLines u lines p)
   pub first-le : p .first ≤ k
   pub from-le : p .from ≤ k

@@ -3,10 +3,10 @@ ghost use mathlib.Core.Path.{_≡_};
 ghost use mathlib.Core.Bool.{true};
 ghost use Prim.Native.Nat.{_+_, _-_, _*_, _≤_, _<_};
 ghost use lib.ListN.{length, take, drop};
-ghost use Rattle.rules.specs.Limits.{bargeLine};
+ghost use Rattle.rules.specs.Limits.{maxLevels, bargeLine};
 ghost use Rattle.rules.specs.Reading.{countLF};
 ghost use Rattle.rules.specs.Page.{fits};
-ghost use Rattle.rules.specs.Records.{widthWords, lineSize};
+ghost use Rattle.rules.specs.Records.{lineSize};
 ghost use Rattle.header.specs.Pages.{page};
 ghost use Rattle.rereading.specs.Rereads.{RereadIs};
 ghost use Rattle.records.specs.Words.{lineWord, stateFrom};
@@ -226,7 +226,7 @@ fn reread_from(
     kept: usize,
 ) -> rereading::Reread
     requires { ⌜ (i ≤ 1_048_576) × ((i ≤ m) × ((m ≤ 4_294_967_295) × (lineSize * (m + 1) ≤ length (now lines)))) ⌝ }
-    requires { ⌜ (i ≤ lineWord (now lines) i 0) × ((lineWord (now lines) i 2 ≤ lineWord (now lines) i 0) × (lineWord (now lines) i 4 ≤ widthWords)) ⌝ }
+    requires { ⌜ (i ≤ lineWord (now lines) i 0) × ((lineWord (now lines) i 2 ≤ lineWord (now lines) i 0) × (lineWord (now lines) i 4 ≤ maxLevels)) ⌝ }
     requires { ⌜ (lineWord (now lines) i 0 ≤ length (now edited)) × ((length (now edited) ≤ 1_048_576) × (b ≤ 4_294_967_295)) ⌝ }
     ensures { λ r. ⌜ RereadIs bargeLine (drop (lineWord (now (lines .entry)) i 0) (now (edited .entry))) (now (lines .entry)) (lineWord (now (lines .entry)) i 0) i m i b kept (stateFrom (now (lines .entry)) i) r ⌝ }
 {

@@ -8,11 +8,11 @@ use mathlib.Core.Logic.{inl}
 use native.Mathlib.Omega.{arith}
 use lib.ListN.{length, take, drop, length-replicate, drop-of-length-le}
 use lib.Seq.{length-take-le}
-use Rattle.rules.specs.Limits.{LineLimits}
+use Rattle.rules.specs.Limits.{maxLevels, LineLimits}
 use Rattle.rules.specs.Line as rules-line
 use Rattle.rules.specs.Line.{initial, tokenAt, dedents, Halt}
 use Rattle.rules.specs.Reading.{Line, linesOf, Entry, Reading, reads, halts, readFrom, linesRead, byteSum, tokenSum}
-use Rattle.rules.specs.Records.{widthWords, lineSize, tokenSize, lineRecord, lineRecords, tokenWords, tokenRecords, endEntry, withEnd, recordsOf, unread, recordedBy, readLines, haltRefusal}
+use Rattle.rules.specs.Records.{lineSize, tokenSize, lineRecord, lineRecords, tokenWords, tokenRecords, endEntry, withEnd, recordsOf, unread, recordedBy, readLines, haltRefusal}
 use Rattle.rules.proofs.LineLaws.{total-lines}
 use Rattle.rules.proofs.ReadingLaws.{read-sizes, tokenSum-append}
 use Rattle.rules.proofs.LoopLaws.{ReadTo}
@@ -43,9 +43,9 @@ pub record EndOf (lim : LineLimits) (t widths : List ℕ) (m k : ℕ) (s : State
   pub count : length es ≡ m
   pub sum : tokenSum es ≡ k
   pub levels : length (take (s .levels) widths) ≡ s .levels
-  pub few : s .levels ≤ widthWords
+  pub few : s .levels ≤ maxLevels
 
-pub end-of : {lim : LineLimits} {t : List ℕ} (old widths : List ℕ) (m k : ℕ) (s : State) → RereadIs lim t old 0 0 0 0 0 (length t) initial (Ends m k s) → EndsIn (readFrom lim initial (linesOf t)) widths (Ends m k s) → length widths ≡ widthWords
+pub end-of : {lim : LineLimits} {t : List ℕ} (old widths : List ℕ) (m k : ℕ) (s : State) → RereadIs lim t old 0 0 0 0 0 (length t) initial (Ends m k s) → EndsIn (readFrom lim initial (linesOf t)) widths (Ends m k s) → length widths ≡ maxLevels
     → EndOf lim t widths m k s
 end-of old widths m k s x y wide =
     record {
@@ -60,7 +60,7 @@ end-of old widths m k s x y wide =
 all-tokens : {lim : LineLimits} {t widths : List ℕ} {m k : ℕ} {s : State} (v : EndOf lim t widths m k s) → tokenSum (withEnd (v .es) (stateOf s widths)) ≡ k + s .levels
 all-tokens {widths = widths} {s = s} v = omega (arith, end-tokens (v .es) (stateOf s widths), v .sum, v .levels)
 
-module _ (lim : LineLimits) (fit : lim .levels ≤ 16) (t : List ℕ) (short : length t ≤ 1_048_576) where
+module _ (lim : LineLimits) (fit : lim .levels ≤ maxLevels) (t : List ℕ) (short : length t ≤ 1_048_576) where
   abbrev whole : Reading
   whole = readFrom lim initial (linesOf t)
 

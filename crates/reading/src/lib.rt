@@ -5,7 +5,8 @@ ghost use Prim.Native.Nat.{_≤_};
 ghost use lib.ListN.{length};
 ghost use Rattle.rules.specs.Line.{initial};
 ghost use Rattle.rules.specs.Reading.{linesOf, readFrom};
-ghost use Rattle.rules.specs.Records.{widthWords, readLines, freshReadingBy};
+ghost use Rattle.rules.specs.Limits.{maxLevels};
+ghost use Rattle.rules.specs.Records.{readLines, freshReadingBy};
 ghost use Rattle.rules.specs.Read.{filledBy, readInto};
 ghost use Rattle.spelling.specs.Bytes.{classTable, reachTable};
 ghost use Rattle.spelling.specs.Rows.{keywordTable};
@@ -40,7 +41,7 @@ pub fn pass_lines(
     requires { ⌜ now index ≡ signIndexTable ⌝ }
     requires { ⌜ now signs ≡ signTable ⌝ }
     requires { ⌜ now keywords ≡ keywordTable ⌝ }
-    requires { ⌜ (length (now text) ≤ 1_048_576) × (length (now widths) ≡ widthWords) × (limits .levels ≤ 16) ⌝ }
+    requires { ⌜ (length (now text) ≤ 1_048_576) × (length (now widths) ≡ maxLevels) × (limits .levels ≤ maxLevels) ⌝ }
     requires { ⌜ (write ≡ true → RoomIn (readFrom (lineLimitsOf limits) initial (linesOf (now text))) (length (now lines)) (length (now tokens))) ⌝ }
     ensures { λ r. ⌜ r ≡ passOf (readLines (lineLimitsOf limits) (now (text .entry))) ⌝ }
     ensures { λ _. ⌜ now (lines .exit) ≡ putIf write (now (lines .entry)) 0 (linesIn (readFrom (lineLimitsOf limits) initial (linesOf (now (text .entry))))) ⌝ }
@@ -87,7 +88,7 @@ pub fn pass_lines(
 
 // What a text gives that is read and not stored: a pass that only counts.
 fn count_lines(limits: refusals::LineLimits, text: &[u8]) -> Pass
-    requires { ⌜ (length (now text) ≤ 1_048_576) × (limits .levels ≤ 16) ⌝ }
+    requires { ⌜ (length (now text) ≤ 1_048_576) × (limits .levels ≤ maxLevels) ⌝ }
     ensures { λ r. ⌜ r ≡ passOf (readLines (lineLimitsOf limits) (now (text .entry))) ⌝ }
 {
     let class = spelling::class_table();
@@ -115,7 +116,7 @@ fn count_lines(limits: refusals::LineLimits, text: &[u8]) -> Pass
 
 // A text by itself, under given limits: 1, 2, then its lines, which are counted.
 pub fn open_text(limits: refusals::Limits, text: &[u8]) -> Pass
-    requires { ⌜ (limits .bytes ≤ 1_048_576) × (limits .line .levels ≤ 16) ⌝ }
+    requires { ⌜ (limits .bytes ≤ 1_048_576) × (limits .line .levels ≤ maxLevels) ⌝ }
     ensures { λ r. ⌜ r ≡ passOf (freshReadingBy (limitsOf limits) (now (text .entry))) ⌝ }
 {
     match refusals::test_text(limits, text) {
@@ -152,7 +153,7 @@ fn store_records(
     requires { ⌜ now index ≡ signIndexTable ⌝ }
     requires { ⌜ now signs ≡ signTable ⌝ }
     requires { ⌜ now keywords ≡ keywordTable ⌝ }
-    requires { ⌜ (length (now text) ≤ 1_048_576) × (length (now widths) ≡ widthWords) × (limits .levels ≤ 16) ⌝ }
+    requires { ⌜ (length (now text) ≤ 1_048_576) × (length (now widths) ≡ maxLevels) × (limits .levels ≤ maxLevels) ⌝ }
     requires { ⌜ Counted m k (readFrom (lineLimitsOf limits) initial (linesOf (now text))) ⌝ }
     ensures { λ r. ⌜ readNumbers r ≡ filledBy (now (lines .entry)) (now (tokens .entry)) (readLines (lineLimitsOf limits) (now (text .entry))) .reply ⌝ }
     ensures { λ _. ⌜ now (lines .exit) ≡ filledBy (now (lines .entry)) (now (tokens .entry)) (readLines (lineLimitsOf limits) (now (text .entry))) .lines ⌝ }
@@ -187,7 +188,7 @@ fn read_lines(
     lines: &mut [u32],
     tokens: &mut [u32],
 ) -> ReadAnswer
-    requires { ⌜ (length (now text) ≤ 1_048_576) × (limits .levels ≤ 16) ⌝ }
+    requires { ⌜ (length (now text) ≤ 1_048_576) × (limits .levels ≤ maxLevels) ⌝ }
     ensures { λ r. ⌜ readNumbers r ≡ filledBy (now (lines .entry)) (now (tokens .entry)) (readLines (lineLimitsOf limits) (now (text .entry))) .reply ⌝ }
     ensures { λ _. ⌜ now (lines .exit) ≡ filledBy (now (lines .entry)) (now (tokens .entry)) (readLines (lineLimitsOf limits) (now (text .entry))) .lines ⌝ }
     ensures { λ _. ⌜ now (tokens .exit) ≡ filledBy (now (lines .entry)) (now (tokens .entry)) (readLines (lineLimitsOf limits) (now (text .entry))) .tokens ⌝ }
@@ -236,7 +237,7 @@ pub fn read_within(
     lines: &mut [u32],
     tokens: &mut [u32],
 ) -> ReadAnswer
-    requires { ⌜ (limits .bytes ≤ 1_048_576) × (limits .line .levels ≤ 16) ⌝ }
+    requires { ⌜ (limits .bytes ≤ 1_048_576) × (limits .line .levels ≤ maxLevels) ⌝ }
     ensures { λ r. ⌜ readNumbers r ≡ filledBy (now (lines .entry)) (now (tokens .entry)) (freshReadingBy (limitsOf limits) (now (text .entry))) .reply ⌝ }
     ensures { λ _. ⌜ now (lines .exit) ≡ filledBy (now (lines .entry)) (now (tokens .entry)) (freshReadingBy (limitsOf limits) (now (text .entry))) .lines ⌝ }
     ensures { λ _. ⌜ now (tokens .exit) ≡ filledBy (now (lines .entry)) (now (tokens .entry)) (freshReadingBy (limitsOf limits) (now (text .entry))) .tokens ⌝ }

@@ -9,13 +9,14 @@ use lib.ListN.{length, take, drop, length-drop}
 use lib.Seq.{sets, length-take-le}
 use Rattle.laws.proofs.Sets.{sets-append}
 use Rattle.rules.specs.Lists.{bit, begins}
-use Rattle.rules.specs.Records.{widthWords, lineSize, packed, stateWords, lineRecord}
+use Rattle.rules.specs.Limits.{maxLevels}
+use Rattle.rules.specs.Records.{lineSize, packed, stateWords, lineRecord}
 use Rattle.rules.proofs.RecordLaws.{length-stateWords}
 use Rattle.rules.proofs.BeginsLaws.{begins-short, begins-parts}
 use Rattle.records.specs.States.{stateOf}
 use Rattle.records.specs.declared.State.{State}
 
-module _ (l : List ℕ) (at start first : ℕ) (s : State) (widths : List ℕ) (wide : length widths ≡ widthWords) (few : s .levels ≤ widthWords) where
+module _ (l : List ℕ) (at start first : ℕ) (s : State) (widths : List ℕ) (wide : length widths ≡ maxLevels) (few : s .levels ≤ maxLevels) where
   abbrev five : List ℕ
   five = start ∷ first ∷ s .depth ∷ bit (s .arrow) ∷ s .levels ∷ []
 

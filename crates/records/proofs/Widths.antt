@@ -6,6 +6,7 @@ use mathlib.Core.List.{List, [], _∷_, _++_, append-nil}
 use native.Mathlib.Omega.{arith}
 use lib.ListN.{length, getD, take, replicate, drop-of-length-le}
 use lib.Seq.{sets, sets-eq, getD-append-add, getD-take, length-take-le}
+use Rattle.rules.specs.Limits.{maxLevels}
 use Rattle.rules.specs.Records.{widthWords, packed}
 
 getD-front : (xs ys : List ℕ) (i : ℕ) → i < length xs → getD (xs ++ ys) i 0 ≡ getD xs i 0
@@ -18,7 +19,7 @@ getD-zeros zero i = refl
 getD-zeros (suc n) zero = refl
 getD-zeros (suc n) (suc i) = getD-zeros n i
 
-module _ (widths : List ℕ) (levels i : ℕ) (wide : length widths ≡ widthWords) (few : levels ≤ widthWords) (h : i < widthWords) where
+module _ (widths : List ℕ) (levels i : ℕ) (wide : length widths ≡ maxLevels) (few : levels ≤ maxLevels) (h : i < maxLevels) where
   open-widths : length (take levels widths) ≡ levels
   open-widths = length-take-le levels widths (omega arith)
 

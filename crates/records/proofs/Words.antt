@@ -11,6 +11,7 @@ use lib.Seq.{drop-cons}
 use borrow.Author.Tests.{eq-eqb, ne-eqb}
 use Rattle.rules.specs.Lists.{begins, same, bit}
 use Rattle.rules.specs.Line.{State}
+use Rattle.rules.specs.Limits.{maxLevels}
 use Rattle.rules.specs.Records.{widthWords, lineSize, packed, stateWords}
 use Rattle.rules.proofs.RecordLaws.{length-packed}
 use Rattle.rules.proofs.StateLaws.{unpacked}
@@ -64,7 +65,7 @@ arrow-back true = refl
 arrow-back false = refl
 
 -- the state from its words
-pub state-from : (lines : List ℕ) (i : ℕ) (z : State) → lineSize * (i + 1) ≤ length lines → length (z .widths) ≤ widthWords → stateIn lines i ≡ stateWords z → stateFrom lines i ≡ z
+pub state-from : (lines : List ℕ) (i : ℕ) (z : State) → lineSize * (i + 1) ≤ length lines → length (z .widths) ≤ maxLevels → stateIn lines i ≡ stateWords z → stateFrom lines i ≡ z
 unfolding stateWords
 state-from lines i z h few e =
     let w : getD lines (lineSize * i + 2) 0 ∷ getD lines (lineSize * i + 2 + 1) 0 ∷ getD lines (lineSize * i + 2 + 2) 0 ∷ take widthWords (drop (lineSize * i + 2 + 3) lines)

@@ -7,6 +7,7 @@ ghost use lib.ListN.{length, getD, take, drop};
 ghost use lib.Seq.{sets};
 ghost use Rattle.laws.specs.Puts.{putIf};
 ghost use Rattle.rules.specs.Lists.{begins, same};
+ghost use Rattle.rules.specs.Limits.{maxLevels};
 ghost use Rattle.rules.specs.Records.{widthWords, lineSize, tokenSize, packed, stateWords, lineRecord};
 ghost use Rattle.records.specs.States.{stateOf};
 ghost use Rattle.records.specs.Words.{lineWord, stateIn, stateFrom};
@@ -100,7 +101,7 @@ pub fn same_token(
 
 // The width of level i, 0 past the open ones.
 fn width_at(widths: &[u32], levels: usize, i: usize) -> u32
-    requires { ⌜ (length (now widths) ≡ widthWords) × ((levels ≤ widthWords) × (i < widthWords)) ⌝ }
+    requires { ⌜ (length (now widths) ≡ maxLevels) × ((levels ≤ maxLevels) × (i < maxLevels)) ⌝ }
     ensures { λ r. ⌜ r ≡ getD (packed (take levels (now (widths .entry)))) i 0 ⌝ }
 {
     if i < levels {
@@ -111,7 +112,7 @@ fn width_at(widths: &[u32], levels: usize, i: usize) -> u32
 
 // The widths of the open levels from an index on, and 0 for each other word.
 fn put_widths(lines: &mut [u32], at: usize, widths: &[u32], levels: usize)
-    requires { ⌜ (length (now widths) ≡ widthWords) × ((levels ≤ widthWords) × (at + widthWords ≤ length (now lines))) ⌝ }
+    requires { ⌜ (length (now widths) ≡ maxLevels) × ((levels ≤ maxLevels) × (at + widthWords ≤ length (now lines))) ⌝ }
     ensures { λ _. ⌜ now (lines .exit) ≡ sets (now (lines .entry)) at (packed (take levels (now (widths .entry)))) ⌝ }
 {
     let mut i: usize = 0;
@@ -123,7 +124,7 @@ fn put_widths(lines: &mut [u32], at: usize, widths: &[u32], levels: usize)
 
 // The widths that stand from an index on.
 fn load_widths(lines: &[u32], at: usize, widths: &mut [u32])
-    requires { ⌜ (length (now widths) ≡ widthWords) × (at + widthWords ≤ length (now lines)) ⌝ }
+    requires { ⌜ (length (now widths) ≡ maxLevels) × (at + widthWords ≤ length (now lines)) ⌝ }
     ensures { λ _. ⌜ now (widths .exit) ≡ take widthWords (drop at (now (lines .entry))) ⌝ }
 {
     let mut x: usize = 0;
@@ -135,7 +136,7 @@ fn load_widths(lines: &[u32], at: usize, widths: &mut [u32])
 
 // The words from an index on begin with the widths of the open levels, and 0 for each other one.
 fn same_widths(lines: &[u32], at: usize, widths: &[u32], levels: usize) -> bool
-    requires { ⌜ (length (now widths) ≡ widthWords) × ((levels ≤ widthWords) × (at + widthWords ≤ length (now lines))) ⌝ }
+    requires { ⌜ (length (now widths) ≡ maxLevels) × ((levels ≤ maxLevels) × (at + widthWords ≤ length (now lines))) ⌝ }
     ensures { λ r. ⌜ r ≡ begins (packed (take levels (now (widths .entry)))) (drop at (now (lines .entry))) ⌝ }
 {
     let mut i: usize = 0;
@@ -158,7 +159,7 @@ pub fn put_line(
     s: State,
     widths: &[u32],
 )
-    requires { ⌜ (length (now widths) ≡ widthWords) × (s .levels ≤ widthWords) ⌝ }
+    requires { ⌜ (length (now widths) ≡ maxLevels) × (s .levels ≤ maxLevels) ⌝ }
     requires { ⌜ (write ≡ true → lineSize * m + lineSize ≤ length (now lines)) ⌝ }
     ensures { λ _. ⌜ now (lines .exit) ≡ putIf write (now (lines .entry)) (lineSize * m) (lineRecord start first (stateOf s (now (widths .entry)))) ⌝ }
 {
@@ -180,7 +181,7 @@ pub fn put_line(
 
 // Line record m has this start, first token's number and state.
 pub fn same_line(lines: &[u32], m: usize, start: u32, first: u32, s: State, widths: &[u32]) -> bool
-    requires { ⌜ (length (now widths) ≡ widthWords) × ((s .levels ≤ widthWords) × (m ≤ 1_048_576)) ⌝ }
+    requires { ⌜ (length (now widths) ≡ maxLevels) × ((s .levels ≤ maxLevels) × (m ≤ 1_048_576)) ⌝ }
     ensures { λ r. ⌜ r ≡ begins (lineRecord start first (stateOf s (now (widths .entry)))) (drop (lineSize * m) (now (lines .entry))) ⌝ }
 {
     let at = LINE * m;
@@ -203,9 +204,9 @@ pub fn same_line(lines: &[u32], m: usize, start: u32, first: u32, s: State, widt
 
 // The state in line record i, its widths beside it.
 pub fn load_state(lines: &[u32], i: usize, widths: &mut [u32]) -> State
-    requires { ⌜ (i ≤ 1_048_576) × ((lineSize * (i + 1) ≤ length (now lines)) × (length (now widths) ≡ widthWords)) ⌝ }
-    requires { ⌜ lineWord (now lines) i 4 ≤ widthWords ⌝ }
-    ensures { λ r. ⌜ (stateOf r (now (widths .exit)) ≡ stateFrom (now (lines .entry)) i) × (r .levels ≤ widthWords) ⌝ }
+    requires { ⌜ (i ≤ 1_048_576) × ((lineSize * (i + 1) ≤ length (now lines)) × (length (now widths) ≡ maxLevels)) ⌝ }
+    requires { ⌜ lineWord (now lines) i 4 ≤ maxLevels ⌝ }
+    ensures { λ r. ⌜ (stateOf r (now (widths .exit)) ≡ stateFrom (now (lines .entry)) i) × (r .levels ≤ maxLevels) ⌝ }
 {
     let at = LINE * i;
     load_widths(lines, at + 5, widths);
@@ -218,7 +219,7 @@ pub fn load_state(lines: &[u32], i: usize, widths: &mut [u32]) -> State
 
 // The state in line record j is this one.
 pub fn same_state(lines: &[u32], j: usize, s: State, widths: &[u32]) -> bool
-    requires { ⌜ (length (now widths) ≡ widthWords) × ((s .levels ≤ widthWords) × ((j ≤ 4_294_967_295) × (lineSize * (j + 1) ≤ length (now lines)))) ⌝ }
+    requires { ⌜ (length (now widths) ≡ maxLevels) × ((s .levels ≤ maxLevels) × ((j ≤ 4_294_967_295) × (lineSize * (j + 1) ≤ length (now lines)))) ⌝ }
     ensures { λ r. ⌜ r ≡ same (stateIn (now (lines .entry)) j) (stateWords (stateOf s (now (widths .entry)))) ⌝ }
 {
     let at = LINE * j + 2;

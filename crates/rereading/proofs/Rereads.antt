@@ -16,7 +16,7 @@ use Rattle.rules.specs.Line as rules-line
 use Rattle.rules.specs.Line.{Token, Halt, lineReads, lineHalts, readLine}
 use Rattle.rules.specs.Reading.{linesOf, Entry, entry, Reading, reads, halts, readFrom, byteSum, tokenSum, stateAt, lineAt, sizeAt}
 use Rattle.rules.specs.Limits.{maxLevels, LineLimits}
-use Rattle.rules.specs.Records.{widthWords, stateWords, haltRefusal}
+use Rattle.rules.specs.Records.{stateWords, haltRefusal}
 use Rattle.rules.specs.StopRule.{edited, marksFrom, sameState, isStop, fromByte}
 use Rattle.rules.proofs.ListLaws.{and-true}
 use Rattle.rules.proofs.ReadingLaws.{read-sizes, byteSum-append}
@@ -70,7 +70,7 @@ module _ (lim : LineLimits) (rest lines : List ℕ) (base i m from b kept : ℕ)
     pub low : byteSum (take r (o .entries)) ≤ oldByte b kept (base + q)
     pub here : kept < base + q → (byteSum (take r (o .entries)) ≡ oldByte b kept (base + q)) × (r < length (o .entries))
 
-pub come-start : {lim : LineLimits} {rest lines : List ℕ} {base i m from b kept : ℕ} (widths : List ℕ) (s : State) → s .levels ≤ widthWords → length widths ≡ widthWords → lim .levels ≤ maxLevels → from ≤ m
+pub come-start : {lim : LineLimits} {rest lines : List ℕ} {base i m from b kept : ℕ} (widths : List ℕ) (s : State) → s .levels ≤ maxLevels → length widths ≡ maxLevels → lim .levels ≤ maxLevels → from ≤ m
     → ComeTo lim rest lines base i m from b kept (stateOf s widths) [] widths 0 0 0 from s
 come-start {lim} {rest} {b = b} widths s few wide room h =
     record {
@@ -148,7 +148,7 @@ module _ {lim : LineLimits} {rest lines : List ℕ} {base i m from b kept : ℕ}
 
     -- the next line is read
     pub next-come : stopsAt lines r b kept (base + q) z ≡ false → (widths′ : List ℕ) (q′ n : ℕ) (s′ : State) (ts : List Token)
-        → readLine lim z (lineAt rest q) ≡ lineReads ts (stateOf s′ widths′) → n ≡ length ts → q′ ≡ q + sizeAt rest q → s′ .levels ≤ widthWords → length widths′ ≡ widthWords
+        → readLine lim z (lineAt rest q) ≡ lineReads ts (stateOf s′ widths′) → n ≡ length ts → q′ ≡ q + sizeAt rest q → s′ .levels ≤ maxLevels → length widths′ ≡ maxLevels
         → ComeTo lim rest lines base i m from b kept z₀ (es ++ (entry z (sizeAt rest q) ts ∷ [])) widths′ q′ (c + 1) (k + n) r s′
     next-come e widths′ q′ n s′ ts l hn hq few′ wide′ =
         let x : Entry = entry z (sizeAt rest q) ts in

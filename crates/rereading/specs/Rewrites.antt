@@ -8,7 +8,8 @@ use mathlib.Core.Logic.{_⊎_}
 use lib.ListN.{length}
 use Rattle.rules.specs.Line.{State}
 use Rattle.rules.specs.Reading.{Reading, reads, halts, tokenSum}
-use Rattle.rules.specs.Records.{widthWords, lineSize, tokenSize}
+use Rattle.rules.specs.Limits.{maxLevels}
+use Rattle.rules.specs.Records.{lineSize, tokenSize}
 use Rattle.records.specs.States.{stateOf}
 use Rattle.rereading.specs.declared.Reread.{Reread}
 use Rattle.rereading.specs.declared.Reread.the-variants.{Stops, Ends, Refused}
@@ -36,6 +37,6 @@ Reaches (halts es h) s = ⊥
 
 -- where reading on comes to the end, it is in this state, with these widths
 abbrev pub EndsIn : Reading → (widths : List ℕ) → Reread → Type 0
-EndsIn x widths (Ends c k s) = Reaches x (stateOf s widths) × (s .levels ≤ widthWords)
+EndsIn x widths (Ends c k s) = Reaches x (stateOf s widths) × (s .levels ≤ maxLevels)
 EndsIn x widths (Stops c k q j) = Unit {0}
 EndsIn x widths (Refused u) = Unit {0}

@@ -7,7 +7,8 @@ ghost use lib.ListN.{length, getD};
 ghost use lib.Seq.{sets};
 ghost use Rattle.rules.specs.Line.{readLine};
 ghost use Rattle.rules.specs.Reading.{linesOf, readFrom, linesRead};
-ghost use Rattle.rules.specs.Records.{widthWords, lineSize, tokenSize, lineRecord, lineRecords, tokenWords, tokenRecords};
+ghost use Rattle.rules.specs.Limits.{maxLevels};
+ghost use Rattle.rules.specs.Records.{lineSize, tokenSize, lineRecord, lineRecords, tokenWords, tokenRecords};
 ghost use Rattle.spelling.specs.Bytes.{classTable, reachTable};
 ghost use Rattle.spelling.specs.Rows.{keywordTable};
 ghost use Rattle.spelling.specs.Signs.{signTable, signIndexTable};
@@ -66,7 +67,7 @@ fn stops_at(
     s: records::State,
     widths: &[u32],
 ) -> bool
-    requires { ⌜ (length (now widths) ≡ widthWords) × ((s .levels ≤ widthWords) × ((j ≤ 4_294_967_295) × (lineSize * (j + 1) ≤ length (now lines)))) ⌝ }
+    requires { ⌜ (length (now widths) ≡ maxLevels) × ((s .levels ≤ maxLevels) × ((j ≤ 4_294_967_295) × (lineSize * (j + 1) ≤ length (now lines)))) ⌝ }
     requires { ⌜ (b ≤ 4_294_967_295) × (p ≤ 1_048_576) ⌝ }
     ensures { λ r. ⌜ r ≡ stopsAt (now (lines .entry)) j b kept p (stateOf s (now (widths .entry))) ⌝ }
 {
@@ -119,7 +120,7 @@ pub fn read_on(
     requires { ⌜ now keywords ≡ keywordTable ⌝ }
     requires { ⌜ (base + length (now text) ≤ 1_048_576) × ((i ≤ base) × ((from ≤ m) × (b ≤ 4_294_967_295))) ⌝ }
     requires { ⌜ (m ≤ 4_294_967_295) × (lineSize * (m + 1) ≤ length (now old)) ⌝ }
-    requires { ⌜ (start .depth ≤ base) × ((start .levels ≤ widthWords) × (length (now widths) ≡ widthWords) × (limits .levels ≤ 16)) ⌝ }
+    requires { ⌜ (start .depth ≤ base) × ((start .levels ≤ maxLevels) × (length (now widths) ≡ maxLevels) × (limits .levels ≤ maxLevels)) ⌝ }
     requires { ⌜ MayPut write (readFrom (lineLimitsOf limits) (stateOf start (now widths)) (linesOf (now text))) (base + length (now text)) kept i first (length (now lines)) (length (now tokens)) ⌝ }
     ensures { λ r. ⌜ RereadIs (lineLimitsOf limits) (now (text .entry)) (now (old .entry)) base i m from b kept (stateOf start (now (widths .entry))) r ⌝ }
     ensures { λ r. ⌜ EndsIn (readFrom (lineLimitsOf limits) (stateOf start (now (widths .entry))) (linesOf (now (text .entry)))) (now (widths .exit)) r ⌝ }
@@ -192,10 +193,10 @@ pub fn rewrite_lines(
     requires { ⌜ now signs ≡ signTable ⌝ }
     requires { ⌜ now keywords ≡ keywordTable ⌝ }
     requires { ⌜ (base + length (now text) ≤ 1_048_576) × (i ≤ base) ⌝ }
-    requires { ⌜ (start .depth ≤ base) × ((start .levels ≤ widthWords) × (length (now widths) ≡ widthWords) × (limits .levels ≤ 16)) ⌝ }
+    requires { ⌜ (start .depth ≤ base) × ((start .levels ≤ maxLevels) × (length (now widths) ≡ maxLevels) × (limits .levels ≤ maxLevels)) ⌝ }
     requires { ⌜ FewFrom (readFrom (lineLimitsOf limits) (stateOf start (now widths)) (linesOf (now text))) first ⌝ }
     requires { ⌜ RoomFrom (readFrom (lineLimitsOf limits) (stateOf start (now widths)) (linesOf (now text))) i first (length (now lines)) (length (now tokens)) ⌝ }
-    ensures { λ r. ⌜ Reaches (readFrom (lineLimitsOf limits) (stateOf start (now (widths .entry))) (linesOf (now (text .entry)))) (stateOf r (now (widths .exit))) × (r .levels ≤ widthWords) ⌝ }
+    ensures { λ r. ⌜ Reaches (readFrom (lineLimitsOf limits) (stateOf start (now (widths .entry))) (linesOf (now (text .entry)))) (stateOf r (now (widths .exit))) × (r .levels ≤ maxLevels) ⌝ }
     ensures { λ _. ⌜ now (lines .exit) ≡ sets (now (lines .entry)) (lineSize * i) (lineRecords base first (linesRead (readFrom (lineLimitsOf limits) (stateOf start (now (widths .entry))) (linesOf (now (text .entry)))))) ⌝ }
     ensures { λ _. ⌜ now (tokens .exit) ≡ sets (now (tokens .entry)) (tokenSize * first) (tokenRecords base (i + 1) (linesRead (readFrom (lineLimitsOf limits) (stateOf start (now (widths .entry))) (linesOf (now (text .entry)))))) ⌝ }
 {

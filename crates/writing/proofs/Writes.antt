@@ -9,8 +9,8 @@ use lib.ListN.{length, take, drop, length-append, length-drop, length-replicate,
 use lib.Seq.{sets, length-take-le, take-nil}
 use Rattle.rules.specs.Line.{State, tokenAt, dedents}
 use Rattle.rules.specs.Reading.{Line, isLF, onto, linesOf, Reading, reads, halts, linesRead, tokenSum}
-use Rattle.rules.specs.Limits.{bargeLine}
-use Rattle.rules.specs.Records.{widthWords, lineSize, tokenSize, lineRecord, lineRecords, tokenWords, tokenRecords, endEntry, withEnd}
+use Rattle.rules.specs.Limits.{maxLevels, bargeLine}
+use Rattle.rules.specs.Records.{lineSize, tokenSize, lineRecord, lineRecords, tokenWords, tokenRecords, endEntry, withEnd}
 use Rattle.rules.proofs.LineLaws.{total, next, total-append, total-lines}
 use Rattle.rules.proofs.ReadingLaws.{read-sizes, tokenSum-append}
 use Rattle.rules.proofs.RecordLaws.{length-lineRecords, length-tokenRecords}
@@ -41,8 +41,8 @@ pub record Bounds (m k : ℕ) (p : Plan) : Type 0 where
 
 -- the code's state and widths, after the lines read again
 pub record Reached (R : Reading) (s : line-state.State) (ws : List ℕ) : Type 0 where
-  pub few : s .levels ≤ widthWords
-  pub wide : length ws ≡ widthWords
+  pub few : s .levels ≤ maxLevels
+  pub wide : length ws ≡ maxLevels
   pub is : Reaches R (stateOf s ws)
 
 -- The first lines of a text are the lines of its first bytes.

@@ -6,7 +6,8 @@ ghost use lib.ListN.{length};
 ghost use lib.Seq.{sets};
 ghost use Rattle.laws.specs.Puts.{putIf};
 ghost use Rattle.rules.specs.Line.{dedents};
-ghost use Rattle.rules.specs.Records.{widthWords, lineSize, tokenSize, lineRecord, tokenWords};
+ghost use Rattle.rules.specs.Limits.{maxLevels};
+ghost use Rattle.rules.specs.Records.{lineSize, tokenSize, lineRecord, tokenWords};
 ghost use Rattle.records.specs.States.{stateOf};
 ghost use Rattle.planning.specs.Plans.{Planned, Roomy};
 ghost use Rattle.writing.specs.Writes.{lineTail, tokenTail};
@@ -19,7 +20,7 @@ fn put_end(
     s: records::State,
     widths: &[u32],
 )
-    requires { ⌜ (length (now widths) ≡ widthWords) × (s .levels ≤ widthWords) ⌝ }
+    requires { ⌜ (length (now widths) ≡ maxLevels) × (s .levels ≤ maxLevels) ⌝ }
     requires { ⌜ (p .i ≤ 1_048_576) × ((p .count ≤ 1_048_577) × ((p .new ≤ 1_048_576) × (p .first + p .read ≤ 2_097_152))) ⌝ }
     requires { ⌜ (p .ends ≡ true → (lineSize * (p .i + p .count) + lineSize ≤ length (now lines)) × (tokenSize * (p .first + p .read + s .levels) ≤ length (now tokens))) ⌝ }
     ensures { λ _. ⌜ now (lines .exit) ≡ putIf (p .ends) (now (lines .entry)) (lineSize * (p .i + p .count)) (lineRecord (p .new) (p .first + p .read) (stateOf s (now (widths .entry)))) ⌝ }

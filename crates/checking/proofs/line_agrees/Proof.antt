@@ -6,8 +6,7 @@ use mathlib.Core.List.{List}
 use native.Mathlib.Omega.{arith}
 use lib.ListN.{take}
 use Rattle.rules.specs.Failure.{failure, badIndent}
-use Rattle.rules.specs.Limits.{LineLimits}
-use Rattle.rules.specs.Records.{widthWords}
+use Rattle.rules.specs.Limits.{maxLevels, LineLimits}
 use Rattle.rules.specs.Line.{State, levels, failed, overLimit, indentSize, cutsFrom, levelsOf}
 use Rattle.records.specs.States.{stateOf}
 use Rattle.refusals.specs.Limits.{lineLimitsOf}
@@ -46,7 +45,7 @@ module _ (k : tie.After-known-told) where
   levels-are : levelsOf (lim (start compared)) (state (start compared)) (line (start compared)) ≡ levels (leading lead) (take (lead .levels) (compared .levels-of .last .1 .1 .1 .1 .0))
   levels-are = levels-known (lim (start compared)) (state (start compared)) (line (start compared)) _ lead _ (compared .levels-of .ensures .0) (k .before .lead .given .1)
 
-  within : (lead .levels ≤ widthWords) × (lead .closes ≤ widthWords)
+  within : (lead .levels ≤ maxLevels) × (lead .closes ≤ maxLevels)
   within = subst Within (k .before .lead .given .1) (compared .levels-of .ensures .1 .0)
 
 leading-spaces-requires : tie.Need-leading-spaces-requires

@@ -8,7 +8,7 @@ use native.Mathlib.Omega.{arith}
 use borrow.Author.Needs.{needs}
 use borrow.Author.Tests.{not-true, not-false}
 use lib.ListN.{length, take, drop, length-drop}
-use Rattle.rules.specs.Limits.{LineLimits}
+use Rattle.rules.specs.Limits.{maxLevels, LineLimits}
 use Rattle.rules.specs.Reading.{notLF, lineAt, sizeAt}
 use Rattle.rules.proofs.ListLaws.{run-le}
 use Rattle.refusals.specs.Limits.{lineLimitsOf}
@@ -45,7 +45,7 @@ module _ (l : tie.At-loop Inv-loop μ-loop) where
   few-bytes : length text ≤ 1_048_576
   few-bytes = start .pre .1 .1 .1 .1 .1 .0 .0
 
-  fit : lim .levels ≤ 16
+  fit : lim .levels ≤ maxLevels
   fit = start .pre .1 .1 .1 .1 .1 .0 .2
 
   far : (l .loop .p ≤ 1_048_576) × (l .loop .m ≤ 1_048_576) × (l .loop .k + l .loop .s .levels ≤ 2_097_152) × (l .loop .s .depth ≤ 4_194_304)

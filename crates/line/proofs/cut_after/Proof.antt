@@ -7,8 +7,8 @@ use mathlib.Core.List.{List}
 use native.Mathlib.Omega.{arith}
 use borrow.Author.Needs.{needs}
 use lib.ListN.{length}
-use Rattle.rules.specs.Records.{widthWords}
 use Rattle.rules.specs.Line.{Token, Cuts, cuts, cutsFrom}
+use Rattle.rules.specs.Limits.{maxLevels}
 use Rattle.line.specs.LineCuts.{lineReadOf, wholeLine, RoomFor}
 use Rattle.records.specs.declared.State.{State}
 use Rattle.line.specs.declared.Place.{Place}
@@ -45,7 +45,7 @@ module _ (p : tie.After-put-leading) where
   abbrev m : ℕ
   m = p .put-leading .result
 
-  few-lead : m ≤ widthWords
+  few-lead : m ≤ maxLevels
   few-lead = omega (arith, p .put-leading .ensures .0, lead-le (start .args .lead) (start .pre .1 .1 .1 .1 .1 .1 .0 .0))
 
   long-lead : length (p .put-leading .last .0) ≡ length (start .args .tokens .now)

@@ -7,9 +7,9 @@ use native.Mathlib.Omega.{arith}
 use borrow.Author.Needs.{needs}
 use lib.ListN.{length, take}
 use Rattle.rules.specs.Failure.{failure, badIndent}
-use Rattle.rules.specs.Limits.{LineLimits}
+use Rattle.rules.specs.Limits.{maxLevels, LineLimits}
 use Rattle.rules.specs.Line.{State, Token, Levels, levels, LineReply, lineHalts, Halt, failed, cutsFrom, levelsOf, readLine}
-use Rattle.rules.specs.Records.{widthWords, tokenSize, tokenWords}
+use Rattle.rules.specs.Records.{tokenSize, tokenWords}
 use Rattle.laws.specs.Puts.{putIf}
 use Rattle.laws.proofs.Puts.{putIf-none}
 use Rattle.records.specs.States.{stateOf}
@@ -60,7 +60,7 @@ module _ (k : tie.After-known-told) where
   levels-are : levelsOf (lim (start compared)) (state (start compared)) (line (start compared)) ≡ levels (leading lead) (take (lead .levels) (compared .levels-of .last .1 .1 .1 .1 .0))
   levels-are = levels-known (lim (start compared)) (state (start compared)) (line (start compared)) _ lead _ (compared .levels-of .ensures .0) (k .before .lead .given .1)
 
-  within : (lead .levels ≤ widthWords) × (lead .closes ≤ widthWords)
+  within : (lead .levels ≤ maxLevels) × (lead .closes ≤ maxLevels)
   within = subst Within (k .before .lead .given .1) (compared .levels-of .ensures .1 .0)
 
 levels-of-requires : tie.Need-levels-of-requires

@@ -7,11 +7,11 @@ use mathlib.Core.List.{List}
 use native.Mathlib.Omega.{arith}
 use borrow.Author.Needs.{needs}
 use lib.ListN.{length, replicate}
-use Rattle.rules.specs.Limits.{LineLimits}
+use Rattle.rules.specs.Limits.{maxLevels, LineLimits}
 use Rattle.rules.specs.Line.{initial}
 use Rattle.rules.specs.Reading.{linesOf, readFrom}
 use Rattle.refusals.specs.Limits.{lineLimitsOf}
-use Rattle.rules.specs.Records.{widthWords, lineSize}
+use Rattle.rules.specs.Records.{lineSize}
 use Rattle.records.specs.declared.State.{State}
 use Rattle.rereading.specs.declared.Reread.{Reread}
 use Rattle.rereading.specs.declared.Reread.the-variants.{Ends}
@@ -33,7 +33,7 @@ module _ (s : tie.Start) where
   few-bytes : length text ≤ 1_048_576
   few-bytes = s .pre .1 .1 .1 .1 .1 .0 .0
 
-  fit : lim .levels ≤ 16
+  fit : lim .levels ≤ maxLevels
   fit = s .pre .1 .1 .1 .1 .1 .0 .2
 
   room : s .args .write ≡ true → RoomIn (readFrom lim initial (linesOf text)) (length (s .args .lines .now)) (length (s .args .tokens .now))
@@ -53,7 +53,7 @@ module _ (r : tie.After-read-on) where
   abbrev widths-now : List ℕ
   widths-now = r .read-on .last .1 .1 .1 .1 .1 .1 .1 .1 .1 .1 .1 .1 .1 .1 .1 .1 .1 .1 .0
 
-  wide : length widths-now ≡ widthWords
+  wide : length widths-now ≡ maxLevels
   wide = r .read-on .kept .1 .1 .1 .1 .1 .1 .1 .1 .1 .1 .1 .1 .1 .1 .1 .1 .1 .1 .0 ∙ start .pre .1 .1 .1 .1 .1 .0 .1
 
   abbrev Gave : Reread → Type 0

@@ -8,10 +8,10 @@ use native.Mathlib.Omega.{arith}
 use lib.ListN.{length}
 use lib.Seq.{length-take-le}
 use borrow.Author.Needs.{needs}
-use Rattle.rules.specs.Limits.{LineLimits}
+use Rattle.rules.specs.Limits.{maxLevels, LineLimits}
 use Rattle.rules.specs.Line.{readLine}
 use Rattle.rules.specs.Reading.{Entry, linesOf, readFrom, lineAt, sizeAt}
-use Rattle.rules.specs.Records.{widthWords, lineSize}
+use Rattle.rules.specs.Records.{lineSize}
 use Rattle.rules.proofs.LoopLaws.{read-end}
 use Rattle.laws.proofs.Puts.{putIf-none}
 use Rattle.refusals.specs.Limits.{lineLimitsOf}
@@ -56,7 +56,7 @@ module _ (l : tie.At-loop Inv-loop μ-loop) where
   may : let a = start .args in MayPut (a .write) (readFrom lim (stateOf (a .start) (a .widths .now)) (linesOf text)) (a .base + length text) (a .kept) (a .i) (a .first) (length (a .lines .now)) (length (a .tokens .now))
   may = start .pre .1 .1 .1 .1 .1 .1 .1 .1
 
-  first-levels : length (stateOf (start .args .start) (start .args .widths .now) .widths) ≤ widthWords
+  first-levels : length (stateOf (start .args .start) (start .args .widths .now) .widths) ≤ maxLevels
   first-levels =
       let p = start .pre .1 .1 .1 .1 .1 .1 .1 .0 .1 in
       omega (arith, length-take-le (start .args .start .levels) (start .args .widths .now) (omega (arith, p .0, p .1)), p .0)
