@@ -34,13 +34,13 @@ pub enum Compared {
     Beyond(u32),
 }
 
-// The indent width: leading spaces count 1, tabs 4.
-pub fn compute_indent(line: &[u8]) -> u32
-    requires { ⌜ length (now line) ≤ 1_048_576 ⌝ }
+// The indent width, leading spaces count 1, tabs 4, of a line that begins with so many spaces.
+pub fn compute_indent(line: &[u8], spaces: usize) -> u32
+    requires { ⌜ (length (now line) ≤ 1_048_576) × (spaces ≡ run isSpace (now line)) ⌝ }
     ensures { λ r. ⌜ r ≡ indentWidth (now (line .entry)) ⌝ }
 {
-    let mut width: u32 = 0;
-    let mut i: usize = 0;
+    let mut width = spaces as u32;
+    let mut i = spaces;
     while i < line.len() {
         let b = line[i];
         if b == 32 {
@@ -94,11 +94,12 @@ fn is_blank(b: u8) -> bool
     b == 13
 }
 
-// Where the leading spaces, tabs and CRs end.
-fn blank_end(line: &[u8]) -> usize
+// Where the leading spaces, tabs and CRs end, of a line that begins with so many spaces.
+fn blank_end(line: &[u8], spaces: usize) -> usize
+    requires { ⌜ spaces ≡ run isSpace (now line) ⌝ }
     ensures { λ r. ⌜ r ≡ run isBlank (now (line .entry)) ⌝ }
 {
-    let mut i: usize = 0;
+    let mut i = spaces;
     while i < line.len() {
         if !is_blank(line[i]) {
             return i;
@@ -136,40 +137,12 @@ fn ends_at(line: &[u8], at: usize) -> bool
     cut::begins_at(line, at, b"//")
 }
 
-// After its blanks the line is empty or begins with `#` or `//`.
-pub fn line_is_blank_or_comment(line: &[u8]) -> bool
-    ensures { λ r. ⌜ r ≡ isBlankLine (now (line .entry)) ⌝ }
-{
-    ends_at(line, blank_end(line))
-}
-
-// The same of a line whose leading spaces are counted: most often no tab or CR follows them.
-fn is_blank_behind(line: &[u8], spaces: usize) -> bool
+// After its blanks the line, which begins with so many spaces, is empty or begins with `#` or `//`.
+pub fn line_is_blank_or_comment(line: &[u8], spaces: usize) -> bool
     requires { ⌜ spaces ≡ run isSpace (now line) ⌝ }
     ensures { λ r. ⌜ r ≡ isBlankLine (now (line .entry)) ⌝ }
 {
-    if spaces == line.len() {
-        return true;
-    }
-    if is_blank(line[spaces]) {
-        return line_is_blank_or_comment(line);
-    }
-    ends_at(line, spaces)
-}
-
-// The indent width of a line whose leading spaces are counted: most often no tab follows them.
-fn width_behind(line: &[u8], spaces: usize) -> u32
-    requires { ⌜ length (now line) ≤ 1_048_576 ⌝ }
-    requires { ⌜ spaces ≡ run isSpace (now line) ⌝ }
-    ensures { λ r. ⌜ r ≡ indentWidth (now (line .entry)) ⌝ }
-{
-    if spaces == line.len() {
-        return spaces as u32;
-    }
-    if line[spaces] == 9 {
-        return compute_indent(line);
-    }
-    spaces as u32
+    ends_at(line, blank_end(line, spaces))
 }
 
 // The innermost width, 0 at base.
@@ -243,7 +216,7 @@ fn is_compared(line: &[u8], spaces: usize, s: records::State) -> bool
     if s.arrow {
         return false;
     }
-    !is_blank_behind(line, spaces)
+    !line_is_blank_or_comment(line, spaces)
 }
 
 // The levels at the start of a line that begins with so many spaces.
@@ -262,7 +235,7 @@ pub fn levels_of(
 {
     let levels = s.levels;
     if is_compared(line, spaces, s) {
-        return compare_levels(limits, widths, levels, width_behind(line, spaces));
+        return compare_levels(limits, widths, levels, compute_indent(line, spaces));
     }
     Compared::Levels(Lead {
         opens: false,

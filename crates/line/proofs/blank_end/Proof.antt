@@ -9,18 +9,21 @@ use lib.ListN.{length, drop}
 use Rattle.rules.specs.Lists.{run}
 use Rattle.rules.specs.Tables.{isBlank}
 use Rattle.rules.proofs.ListLaws.{run-pass, run-stop, run-end}
+use Rattle.line.proofs.Spaces.{spaces-le, blanks-behind}
 use Rattle.line.proofs.Indents.{indents, indentSize-run}
 use Rattle.line.proofs.blank_end.Statement.{statement}
 use Rattle.line.proofs.blank_end.Tie as tie
 
 abbrev Inv-loop : tie.InvT-loop
-Inv-loop line i₀ i = (i ≤ length line) × (i + run isBlank (drop i line) ≡ run isBlank line)
+Inv-loop line spaces i₀ i = (i ≤ length line) × (i + run isBlank (drop i line) ≡ run isBlank line)
 
 abbrev μ-loop : tie.MeasureT-loop
-μ-loop line i₀ i = length line - i
+μ-loop line spaces i₀ i = length line - i
 
 loop-holds : tie.Need-loop-holds Inv-loop μ-loop
-loop-holds c = (omega arith, omega arith)
+loop-holds c =
+    let s = c .before in
+    (spaces-le (s .args .line .now) (s .args .spaces) (s .pre), sym (blanks-behind (s .args .line .now) (s .args .spaces) (s .pre)))
 
 shared-slice-read-is-blank : tie.Need-shared-slice-read-is-blank Inv-loop μ-loop
 shared-slice-read-is-blank c = omega arith

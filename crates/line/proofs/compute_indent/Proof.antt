@@ -1,22 +1,27 @@
 -- `line::compute_indent` meets its contract. What is left gives the whole width.
 -- Assumes nothing.
 use Prim.Native.Nat.{ℕ, _+_, _-_, _*_, _≤_, _<_}
-use mathlib.Core.Path.{_≡_, refl}
+use mathlib.Core.Path.{_≡_, sym}
 use native.Mathlib.Omega.{arith}
 use lib.ListN.{length, drop}
 use Rattle.rules.specs.Line.{indentWidth}
+use Rattle.line.proofs.Spaces.{spaces-le, width-behind}
 use Rattle.line.proofs.Indents.{width-space, width-tab, width-other, width-end}
 use Rattle.line.proofs.compute_indent.Statement.{statement}
 use Rattle.line.proofs.compute_indent.Tie as tie
 
 abbrev Inv-loop : tie.InvT-loop
-Inv-loop line width₀ i₀ width i = (i ≤ length line) × (width ≤ 4 * i) × (width + indentWidth (drop i line) ≡ indentWidth line)
+Inv-loop line spaces width₀ i₀ width i = (i ≤ length line) × (width ≤ 4 * i) × (width + indentWidth (drop i line) ≡ indentWidth line)
 
 abbrev μ-loop : tie.MeasureT-loop
-μ-loop line width₀ i₀ width i = length line - i
+μ-loop line spaces width₀ i₀ width i = length line - i
+
+cast-width : tie.Need-cast-width Inv-loop μ-loop
+cast-width c = omega (arith, spaces-le (c .args .line .now) (c .args .spaces) (c .pre .1))
 
 loop-holds : tie.Need-loop-holds Inv-loop μ-loop
-loop-holds c = omega arith
+loop-holds c =
+    (spaces-le (c .args .line .now) (c .args .spaces) (c .pre .1), omega arith, sym (width-behind (c .args .line .now) (c .args .spaces) (c .pre .1)))
 
 shared-slice-read-b : tie.Need-shared-slice-read-b Inv-loop μ-loop
 shared-slice-read-b c = omega arith
@@ -68,6 +73,7 @@ compute-indent-spec =
     (tie.spec
     Inv-loop
     μ-loop
+    cast-width
     loop-holds
     shared-slice-read-b
     add-width

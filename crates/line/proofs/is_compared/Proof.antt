@@ -20,16 +20,16 @@ returns-2 c =
     let a = c .before .before .before .before .args in
     rw (eq-eqb (a .s .depth) 0 (c .before .if1 .left), c .if2 .taken) (sym (and-false (not (isBlankLine (a .line .now)))))
 
-is-blank-behind-requires : tie.Need-is-blank-behind-requires
-is-blank-behind-requires c κs = search needs
+line-is-blank-or-comment-requires : tie.Need-line-is-blank-or-comment-requires
+line-is-blank-or-comment-requires c κs = search needs
 
 returns-3 : tie.Need-returns-3
 unfolding isCompared
 returns-3 c =
     let a = c .before .before .before .before .before .args in
     rw (eq-eqb (a .s .depth) 0 (c .before .before .if1 .left), c .before .if2 .left)
-    (ap not (c .is-blank-behind .ensures) ∙ sym (and-true (not (isBlankLine (a .line .now)))))
+    (ap not (c .line-is-blank-or-comment .ensures) ∙ sym (and-true (not (isBlankLine (a .line .now)))))
 
 pub is-compared-spec : {M : Type 1} → statement M
 is-compared-spec =
-    tie.close (tie.spec returns returns-2 is-blank-behind-requires returns-3)
+    tie.close (tie.spec returns returns-2 line-is-blank-or-comment-requires returns-3)

@@ -15,8 +15,8 @@ use Rattle.line.proofs.levels_of.Tie as tie
 is-compared-requires : tie.Need-is-compared-requires
 is-compared-requires c κs = search needs
 
-width-behind-requires : tie.Need-width-behind-requires
-width-behind-requires c κs = search needs
+compute-indent-requires : tie.Need-compute-indent-requires
+compute-indent-requires c κs = search needs
 
 compare-levels-requires : tie.Need-compare-levels-requires
 compare-levels-requires c κs = search needs
@@ -32,7 +32,7 @@ returns c =
     let a = d .before .before .before .before .args in
     let e = b .compare-levels .ensures in
     let taken = sym (d .before .is-compared .ensures) ∙ d .if1 .taken in
-    let is = ap (λ (w : ℕ). compared (lineLimitsOf (a .limits)) w (take (a .s .levels) (a .widths .now))) (b .before .width-behind .ensures) in
+    let is = ap (λ (w : ℕ). compared (lineLimitsOf (a .limits)) w (take (a .s .levels) (a .widths .now))) (b .before .compute-indent .ensures) in
     (rw taken (e .0 ∙ is), (e .1 .0, rw taken (e .1 .1 ∙ ap (λ (x : Levels). widthsAfter x (a .widths .now)) is)))
 
 returns-2 : tie.Need-returns-2
@@ -47,7 +47,7 @@ levels-of-spec =
     tie.close
     (tie.spec
     is-compared-requires
-    width-behind-requires
+    compute-indent-requires
     compare-levels-requires
     same-length
     returns
