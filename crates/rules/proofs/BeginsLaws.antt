@@ -65,3 +65,11 @@ unfolding begins same
 same-begins [] s = refl
 same-begins (x ∷ p) [] = refl
 same-begins (x ∷ p) (y ∷ s) = (λ i. eqb-swap y x i && same-begins p s i)
+
+-- a list of the same length
+pub same-whole : (p s : List ℕ) → length p ≡ length s → same p s ≡ begins p s
+unfolding same begins
+same-whole [] [] e = refl
+same-whole [] (y ∷ s) e = absurd (omega arith)
+same-whole (x ∷ p) [] e = refl
+same-whole (x ∷ p) (y ∷ s) e = ap (λ (b : Bool). eqb x y && b) (same-whole p s (omega arith))
