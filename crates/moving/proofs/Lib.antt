@@ -1,4 +1,2 @@
-pub mod Words
 pub mod Moves
-pub mod Joins
 pub mod Shifts

@@ -12,8 +12,9 @@ use Rattle.laws.specs.Blocks.{blocks}
 use Rattle.laws.proofs.Sets.{sets-append, sets-before, blocks-same, blocks-from, blocks-append, blocks-length, getD-sets-above, getD-sets-below}
 use Rattle.rules.specs.Records.{lineSize, tokenSize}
 use Rattle.rules.proofs.RecordLaws.{stateSize}
-use Rattle.moving.specs.Moved.{Way, place, wordValues, distance, shifted, words, sizeOf, movedToken, movedLine, movedRecord}
-use Rattle.moving.proofs.Words.{length-words, words-at, words-same, words-append, getD-sets-in, sets-again, sets-words, low}
+use Rattle.words.specs.Words.{Way, place, words}
+use Rattle.moving.specs.Moved.{wordValues, distance, shifted, sizeOf, movedToken, movedLine, movedRecord}
+use Rattle.words.proofs.Words.{length-words, words-at, words-same, words-append, getD-sets-in, sets-again, sets-words, low}
 
 -- a record is w words, made of the w words at its place
 pub record Width (w : ℕ) (g : List ℕ → ℕ → List ℕ) : Type 0 where

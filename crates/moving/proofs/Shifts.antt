@@ -14,8 +14,9 @@ use Rattle.rules.specs.Reading.{Entry, tokenSum}
 use Rattle.rules.specs.Records.{lineSize, tokenSize, stateWords, lineRecord, lineRecords, tokenWords, tokenRecords}
 use Rattle.rules.proofs.RecordLaws.{stateSize, length-stateWords}
 use Rattle.rules.proofs.BoundLaws.{AllLe, wordMax}
-use Rattle.moving.specs.Moved.{distance, shifted, words, movedToken, movedTokens, movedLine, movedLines}
-use Rattle.moving.proofs.Words.{words-take}
+use Rattle.words.specs.Words.{words}
+use Rattle.moving.specs.Moved.{distance, shifted, movedToken, movedTokens, movedLine, movedLines}
+use Rattle.words.proofs.Words.{words-take}
 use Rattle.moving.proofs.Moves.{Width, token-width, line-width}
 
 -- Lengths.

@@ -1,25 +1,12 @@
 -- Records moved within their buffer.
 -- Assumes nothing.
-use Prim.Native.Nat.{ℕ, _+_, _-_, _*_, _%_, _≤_}
+use Prim.Native.Nat.{ℕ, _+_, _-_, _*_, _%_}
 use mathlib.Core.Bool.{Bool, true, false}
 use mathlib.Core.List.{List, [], _∷_}
 use lib.ListN.{getD}
-use Rattle.laws.specs.Blocks.{blocks, table}
+use Rattle.laws.specs.Blocks.{blocks}
 use Rattle.rules.specs.Records.{widthWords, lineSize, tokenSize}
-
--- Things moved one after the other so that none is written over before it is moved: from the first on, or upwards from the last on.
-
--- the way from one place to another
-abbrev pub Way : (up : Bool) → (from to : ℕ) → Type 0
-Way true from to = from ≤ to
-Way false from to = to ≤ from
-
--- where the next k of n things begin, after so many of them
-abbrev pub place : (up : Bool) → (done k n : ℕ) → ℕ
-place true done k n = n - done - k
-place false done k n = done
-
--- Words and records moved.
+use Rattle.words.specs.Words.{words}
 
 -- how many values a word has
 abbrev pub wordValues : ℕ
@@ -32,10 +19,6 @@ distance old new = (new + wordValues - old % wordValues) % wordValues
 -- a word moved by a distance
 unfoldable pub shifted : (by : ℕ) → ℕ → ℕ
 shifted by x = (x + by) % wordValues
-
--- n words from index i on
-unfoldable pub words : List ℕ → (i n : ℕ) → List ℕ
-words ws i n = table (λ t. getD ws (i + t) 0) 0 n
 
 -- the token record at index i, its position moved by d and its line by e
 unfoldable pub movedToken : (d e : ℕ) → List ℕ → (i : ℕ) → List ℕ

@@ -9,8 +9,9 @@ use lib.ListN.{length}
 use lib.Seq.{sets, length-sets}
 use borrow.Author.Needs.{needs}
 use Rattle.laws.specs.Blocks.{blocks}
-use Rattle.moving.specs.Moved.{words, movedRecord}
-use Rattle.moving.proofs.Words.{way-on, way-times, place-le}
+use Rattle.words.specs.Words.{words}
+use Rattle.moving.specs.Moved.{movedRecord}
+use Rattle.words.proofs.Words.{way-on, way-times, place-le}
 use Rattle.moving.proofs.Moves.{recordsSo, records-next, records-all, record-width, some-size}
 use Rattle.moving.proofs.carry_records.Statement.{statement}
 use Rattle.moving.proofs.carry_records.Tie as tie

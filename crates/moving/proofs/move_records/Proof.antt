@@ -5,7 +5,7 @@ use mathlib.Core.Path.{refl, sym, _∙_}
 use native.Mathlib.Omega.{arith}
 use borrow.Author.Needs.{needs}
 use Rattle.moving.specs.Moved.{movedRecord}
-use Rattle.moving.proofs.Words.{way-of}
+use Rattle.words.proofs.Words.{way-of}
 use Rattle.moving.proofs.Moves.{by-bases, blocks-still, record-kept}
 use Rattle.moving.proofs.move_records.Statement.{statement}
 use Rattle.moving.proofs.move_records.Tie as tie

@@ -1,12 +1,12 @@
--- `moving::copy_back` meets its contract.
+-- `copies::copy_back` meets its contract.
 -- Assumes nothing.
 use mathlib.Core.Path.{sym, ap, _∙_}
 use native.Mathlib.Omega.{arith}
 use lib.Seq.{sets}
-use Rattle.moving.proofs.Joins.{drop-take}
+use Rattle.copies.proofs.Joins.{drop-take}
 use borrow.Author.Needs.{needs}
-use Rattle.moving.proofs.copy_back.Statement.{statement}
-use Rattle.moving.proofs.copy_back.Tie as tie
+use Rattle.copies.proofs.copy_back.Statement.{statement}
+use Rattle.copies.proofs.copy_back.Tie as tie
 
 sub-copy-bytes : tie.Need-sub-copy-bytes
 sub-copy-bytes c = search needs

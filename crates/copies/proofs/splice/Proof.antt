@@ -1,4 +1,4 @@
--- `moving::splice` meets its contract: front, w and tail, one after the other.
+-- `copies::splice` meets its contract: front, w and tail, one after the other.
 -- Assumes nothing.
 use Prim.Native.Nat.{ℕ, _+_, _-_}
 use mathlib.Core.Path.{sym, ap, _∙_}
@@ -6,10 +6,10 @@ use mathlib.Core.List.{List}
 use native.Mathlib.Omega.{arith}
 use lib.ListN.{length, take, drop}
 use lib.Seq.{sets, length-take-le}
-use Rattle.moving.proofs.Joins.{spliced}
+use Rattle.copies.proofs.Joins.{spliced}
 use borrow.Author.Needs.{needs}
-use Rattle.moving.proofs.splice.Statement.{statement}
-use Rattle.moving.proofs.splice.Tie as tie
+use Rattle.copies.proofs.splice.Statement.{statement}
+use Rattle.copies.proofs.splice.Tie as tie
 
 slice-aggregate-copy-bytes : tie.Need-slice-aggregate-copy-bytes
 slice-aggregate-copy-bytes c = sym (length-take-le (c .before .before .before .before .before .args .a) (c .before .before .before .before .before .args .text .now) (omega arith))

@@ -1,4 +1,4 @@
--- `moving::copy_bytes` meets its contract. So far the first j bytes stand there.
+-- `copies::copy_bytes` meets its contract. So far the first j bytes stand there.
 -- Assumes nothing.
 use Prim.Native.Nat.{ℕ, _+_, _-_, _≤_}
 use mathlib.Core.Path.{_≡_, refl, ap, _∙_}
@@ -7,8 +7,8 @@ use native.Mathlib.Omega.{arith}
 use lib.ListN.{length, take, getD, set}
 use lib.Seq.{sets, length-sets, take-all}
 use Rattle.laws.proofs.Sets.{copy-up}
-use Rattle.moving.proofs.copy_bytes.Statement.{statement}
-use Rattle.moving.proofs.copy_bytes.Tie as tie
+use Rattle.copies.proofs.copy_bytes.Statement.{statement}
+use Rattle.copies.proofs.copy_bytes.Tie as tie
 
 abbrev Inv-loop : tie.InvT-loop
 Inv-loop dst₀ at src j₀ dst j = (j ≤ length src) × (dst ≡ sets dst₀ at (take j src))

@@ -1,11 +1,11 @@
--- `moving::place_of` meets its contract.
+-- `words::place_of` meets its contract.
 -- Assumes nothing.
 use mathlib.Core.Path.{sym, ap}
 use mathlib.Core.Bool.{Bool}
 use borrow.Author.Needs.{needs}
-use Rattle.moving.specs.Moved.{place}
-use Rattle.moving.proofs.place_of.Statement.{statement}
-use Rattle.moving.proofs.place_of.Tie as tie
+use Rattle.words.specs.Words.{place}
+use Rattle.words.proofs.place_of.Statement.{statement}
+use Rattle.words.proofs.place_of.Tie as tie
 
 sub-result : tie.Need-sub-result
 sub-result c = search needs

@@ -1,15 +1,15 @@
--- `moving::move_eights` meets its contract. So far j eights are moved.
+-- `words::move_eights` meets its contract. So far j eights are moved.
 -- Assumes nothing.
 use Prim.Native.Nat.{_+_, _-_, _*_, _≤_}
-use mathlib.Core.Path.{_≡_, ap, _∙_}
+use mathlib.Core.Path.{_≡_}
 use native.Mathlib.Omega.{arith}
 use lib.ListN.{length}
-use Rattle.moving.proofs.Words.{wordsSo, words-none, words-turn, words-all, length-so, way-on, place-le}
-use Rattle.moving.proofs.move_eights.Statement.{statement}
-use Rattle.moving.proofs.move_eights.Tie as tie
+use Rattle.words.proofs.Words.{Parts, parts-none, parts-long, part-inside, parts-more, parts-all, way-on}
+use Rattle.words.proofs.move_eights.Statement.{statement}
+use Rattle.words.proofs.move_eights.Tie as tie
 
 abbrev Inv-loop : tie.InvT-loop
-Inv-loop ws₀ up from to n j₀ ws j = (j ≤ n) × (ws ≡ wordsSo up ws₀ from to (32 * n) (32 * j))
+Inv-loop ws₀ up from to n j₀ ws j = Parts up ws₀ from to n 32 ws j
 
 abbrev μ-loop : tie.MeasureT-loop
 μ-loop ws₀ up from to n j₀ ws j = n - j
@@ -19,19 +19,19 @@ module _ (l : tie.At-loop Inv-loop μ-loop) where
   s = l .before .before
 
   long : length (l .loop .ws) ≡ length (s .args .ws .now)
-  long = let a = s .args in length-so (a .up) (a .ws .now) (l .loop .ws) (a .from) (a .to) (32 * a .n) (32 * l .loop .j) (l .loop .inv .1)
+  long = let a = s .args in parts-long (a .up) (a .ws .now) (a .from) (a .to) (a .n) 32 (l .loop .inv)
 
 module _ (p : tie.After-place-of Inv-loop μ-loop) where
   inside : p .place-of .result + 32 ≤ 32 * s (p .before .before) .args .n
   inside =
       let l = p .before .before in
       let a = s l .args in
-      omega (arith, p .place-of .ensures, place-le (a .up) (32 * l .loop .j) 32 (32 * a .n) (omega (arith, p .before .loop-test .taken)))
+      part-inside (a .up) (a .ws .now) (a .from) (a .to) (a .n) 32 (l .loop .j) (p .place-of .result) (p .before .loop-test .taken) (p .place-of .ensures)
 
 loop-holds : tie.Need-loop-holds Inv-loop μ-loop
 loop-holds c =
     let a = c .before .args in
-    (omega arith, words-none (a .up) (a .ws .now) (a .from) (a .to) (32 * a .n))
+    parts-none (a .up) (a .ws .now) (a .from) (a .to) (a .n) 32
 
 mul-place-of : tie.Need-mul-place-of Inv-loop μ-loop
 mul-place-of c = omega arith
@@ -67,11 +67,8 @@ loop-again c =
     let q = c .before .before in
     let p = q .before .before in
     let l = p .before .before in
-    let a = s l .args in (
-      omega (arith, p .before .loop-test .taken),
-      q .move-fours .ensures
-          ∙ words-turn (a .up) (a .ws .now) (l .loop .ws) (a .from) (a .to) (32 * a .n) 32 (l .loop .j) (p .place-of .result) (s l .pre .1) (omega (arith, p .before .loop-test .taken)) (p .place-of .ensures) (l .loop .inv .1),
-    )
+    let a = s l .args in
+    parts-more (a .up) (a .ws .now) (a .from) (a .to) (a .n) 32 (p .place-of .result) (l .loop .inv) (s l .pre .1) (p .before .loop-test .taken) (p .place-of .ensures) (q .move-fours .ensures)
 
 same-length : tie.Need-same-length Inv-loop μ-loop
 same-length c = long (c .before)
@@ -80,8 +77,7 @@ returns : tie.Need-returns Inv-loop μ-loop
 returns c =
     let l = c .before in
     let a = s l .args in
-    let e : 32 * l .loop .j ≡ 32 * a .n = omega (arith, c .loop-test .left, l .loop .inv .0) in
-    l .loop .inv .1 ∙ ap (wordsSo (a .up) (a .ws .now) (a .from) (a .to) (32 * a .n)) e ∙ words-all (a .up) (a .ws .now) (a .from) (a .to) (32 * a .n)
+    parts-all (a .up) (a .ws .now) (a .from) (a .to) (a .n) 32 (l .loop .inv) (c .loop-test .left)
 
 pub move-eights-spec : {M : Type 1} → statement M
 move-eights-spec =

@@ -14,7 +14,7 @@ use borrow.Author.Tests.{ltb-true, ltb-false}
 use Rattle.laws.specs.Blocks.{table}
 use Rattle.laws.proofs.Below.{entry}
 use Rattle.laws.proofs.Sets.{sets-append, sets-before, getD-sets-below, getD-sets-above}
-use Rattle.moving.specs.Moved.{Way, place, words}
+use Rattle.words.specs.Words.{Way, place, words}
 
 -- Tables.
 
@@ -161,16 +161,10 @@ words-next true l ws s d n done k way h e =
     words-before l ws s d (n - done - k) k (n - done) done way (omega arith) e ∙ (λ t. sets l (d + at t) (words l (s + at t) (count t)))
 words-next false l ws s d n done k way h e = words-after l ws s d done k way e
 
--- the next k at the place x; of parts of c words, part j
+-- the next k at the place x
 pub words-part : (up : Bool) (l ws : List ℕ) (s d n done k x : ℕ) → Way up s d → done + k ≤ n → x ≡ place up done k n → ws ≡ wordsSo up l s d n done
     → sets ws (d + x) (words ws (s + x) k) ≡ wordsSo up l s d n (done + k)
 words-part up l ws s d n done k x way h q e = ap (λ (y : ℕ). sets ws (d + y) (words ws (s + y) k)) q ∙ words-next up l ws s d n done k way h e
-
-pub words-turn : (up : Bool) (l ws : List ℕ) (s d n c j x : ℕ) → Way up s d → c * j + c ≤ n → x ≡ place up (c * j) c n → ws ≡ wordsSo up l s d n (c * j)
-    → sets ws (d + x) (words ws (s + x) c) ≡ wordsSo up l s d n (c * (j + 1))
-words-turn up l ws s d n c j x way h q e =
-    let more : c * j + c ≡ c * (j + 1) = omega arith in
-    words-part up l ws s d n (c * j) c x way h q e ∙ ap (wordsSo up l s d n) more
 
 pub words-all : (up : Bool) (l : List ℕ) (s d n : ℕ) → wordsSo up l s d n n ≡ sets l d (words l s n)
 words-all true l s d n =
@@ -202,3 +196,44 @@ way-of s d = go (ltb s d) refl
 pub place-le : (up : Bool) (done k n : ℕ) → done + k ≤ n → place up done k n + k ≤ n
 place-le true done k n h = omega arith
 place-le false done k n h = h
+
+-- Parts of c words moved one after the other, n in all.
+module _ (up : Bool) (l : List ℕ) (s d n c : ℕ) where
+  -- so far j of them are moved
+  pub record Parts (ws : List ℕ) (j : ℕ) : Type 0 where
+    pub few : j ≤ n
+    pub so : ws ≡ wordsSo up l s d (c * n) (c * j)
+
+  -- where the next one begins
+  abbrev pub partAt : ℕ → ℕ
+  partAt j = place up (c * j) c (c * n)
+
+  pub parts-none : Parts l 0
+  parts-none = record { few = omega arith; so = words-none up l s d (c * n) ∙ ap (wordsSo up l s d (c * n)) none }
+    where
+      none : 0 ≡ c * 0
+      none = omega arith
+
+  pub parts-long : {ws : List ℕ} {j : ℕ} → Parts ws j → length ws ≡ length l
+  parts-long {ws} {j} p = length-so up l ws s d (c * n) (c * j) (p .so)
+
+  next-part : (j : ℕ) → j < n → c * j + c ≤ c * n
+  next-part j h = let k : j + 1 ≤ n = omega arith in omega (arith, mul-le-mul-left c k)
+
+  -- it lies among them, so that there is room for it wherever there is for all
+  pub part-inside : (j x : ℕ) → j < n → x ≡ partAt j → x + c ≤ c * n
+  part-inside j x h q = omega (arith, q, place-le up (c * j) c (c * n) (next-part j h))
+
+  -- it is moved
+  pub parts-more : {ws ws₁ : List ℕ} {j : ℕ} (x : ℕ) → Parts ws j → Way up s d → j < n → x ≡ partAt j → ws₁ ≡ sets ws (d + x) (words ws (s + x) c) → Parts ws₁ (j + 1)
+  parts-more {ws} {ws₁} {j} x p way h q e =
+      let more : c * j + c ≡ c * (j + 1) = omega arith in
+      record {
+        few = omega arith;
+        so = e ∙ words-part up l ws s d (c * n) (c * j) c x way (next-part j h) q (p .so) ∙ ap (wordsSo up l s d (c * n)) more;
+      }
+
+  pub parts-all : {ws : List ℕ} {j : ℕ} → Parts ws j → n ≤ j → ws ≡ sets l d (words l s (c * n))
+  parts-all {ws} {j} p h =
+      let e : j ≡ n = omega (arith, p .few) in
+      p .so ∙ ap (λ (k : ℕ). wordsSo up l s d (c * n) (c * k)) e ∙ words-all up l s d (c * n)

@@ -1,4 +1,4 @@
--- `moving::move_words` meets its contract, part by part.
+-- `words::move_words` meets its contract, part by part.
 -- Assumes nothing.
 use Prim.Native.Nat.{ℕ, _+_, _*_, _/_, _%_, _≤_}
 use mathlib.Core.Path.{_≡_, ap, _∙_}
@@ -8,10 +8,10 @@ use native.Mathlib.Nat.{zero-add}
 use lib.ListN.{length}
 use lib.Seq.{length-sets}
 use borrow.Author.Needs.{needs}
-use Rattle.moving.specs.Moved.{Way, place}
-use Rattle.moving.proofs.Words.{wordsSo, words-none, words-part, words-all, way-on, place-le}
-use Rattle.moving.proofs.move_words.Statement.{statement}
-use Rattle.moving.proofs.move_words.Tie as tie
+use Rattle.words.specs.Words.{Way, place}
+use Rattle.words.proofs.Words.{wordsSo, words-none, words-part, words-all, way-on, place-le}
+use Rattle.words.proofs.move_words.Statement.{statement}
+use Rattle.words.proofs.move_words.Tie as tie
 
 -- What the function was called with, and the words of the first two parts.
 module _ (s : tie.Start) where

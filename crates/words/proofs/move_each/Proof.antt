@@ -1,12 +1,12 @@
--- `moving::move_each` meets its contract. So far `done` words are moved.
+-- `words::move_each` meets its contract. So far `done` words are moved.
 -- Assumes nothing.
 use Prim.Native.Nat.{ℕ, _+_, _-_, _≤_}
 use mathlib.Core.Path.{_≡_, ap, _∙_}
 use native.Mathlib.Omega.{arith}
 use lib.ListN.{length}
-use Rattle.moving.proofs.Words.{wordsSo, words-none, words-part, words-all, length-so, place-le, one-word}
-use Rattle.moving.proofs.move_each.Statement.{statement}
-use Rattle.moving.proofs.move_each.Tie as tie
+use Rattle.words.proofs.Words.{wordsSo, words-none, words-part, words-all, length-so, place-le, one-word}
+use Rattle.words.proofs.move_each.Statement.{statement}
+use Rattle.words.proofs.move_each.Tie as tie
 
 abbrev Inv-loop : tie.InvT-loop
 Inv-loop ws₀ up from to n done₀ ws done = (done ≤ n) × (ws ≡ wordsSo up ws₀ from to n done)

@@ -1,14 +1,14 @@
--- `moving::move_four` meets its contract.
+-- `words::move_four` meets its contract.
 -- Assumes nothing.
 use Prim.Native.Nat.{ℕ, suc, _+_}
 use mathlib.Core.Path.{_≡_}
 use native.Mathlib.Omega.{arith}
 use native.Mathlib.Nat.{add-zero}
 use lib.ListN.{length-set}
-use Rattle.moving.specs.Moved.{words}
+use Rattle.words.specs.Words.{words}
 use borrow.Author.Needs.{needs}
-use Rattle.moving.proofs.move_four.Statement.{statement}
-use Rattle.moving.proofs.move_four.Tie as tie
+use Rattle.words.proofs.move_four.Statement.{statement}
+use Rattle.words.proofs.move_four.Tie as tie
 
 mul-w : tie.Need-mul-w
 mul-w c = search needs
