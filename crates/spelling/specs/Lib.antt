@@ -1,4 +1,0 @@
-pub mod Bytes
-pub mod Masks
-pub mod Rows
-pub mod Signs
