@@ -1,17 +1,17 @@
 -- Cuts without the kinds of words: what they are cuts of, and what does not change.
 -- Assumes nothing.
-use Prim.Native.Nat.{ℕ, suc, _≤_, _<_}
+use Prim.Native.Nat.{ℕ, _<_}
 use mathlib.Core.Path.{_≡_, refl, sym, ap, _∙_}
 use mathlib.Core.Bool.{Bool, true, false, false≢true}
 use native.Mathlib.Omega.{arith}
 use native.Mathlib.Decide.{ℕ-discrete}
 use lib.Dec.{ltb, eqb}
-use borrow.Author.Tests.{lt-ltb, le-ltb, ltb-true, ltb-false, eq-eqb, ne-eqb}
+use borrow.Author.Tests.{le-ltb, eq-eqb, ne-eqb}
 use Rattle.rules.specs.Lists.{if_then_else_}
 use Rattle.rules.specs.Kinds.{Ident}
 use Rattle.rules.specs.Failure.{Failure}
 use Rattle.rules.specs.Cut.{Cut, blank, comment, ends, token, fails}
-use Rattle.cut.specs.Cuts.{plainKind, plainCut, cutNamed}
+use Rattle.cut.specs.Cuts.{plainKind, cutNamed}
 
 -- a kind that a pass gives for the kind k
 pub record Named (write : Bool) (k kind : ℕ) : Type 0 where

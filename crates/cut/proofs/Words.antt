@@ -1,6 +1,6 @@
 -- Words at an index of a line, and the cuts that hold no word: those are the same with the kinds of words or without.
 -- Assumes nothing.
-use Prim.Native.Nat.{ℕ, suc, _+_, _-_, _/_, _%_, _≤_, _<_}
+use Prim.Native.Nat.{ℕ, _+_, _-_, _/_, _%_, _<_}
 use Prim.Native.Char.{code}
 use mathlib.Core.Path.{_≡_, refl, sym, ap, _∙_}
 use mathlib.Core.Bool.{Bool, true, false}
@@ -11,15 +11,16 @@ use lib.Dec.{ltb, leb, eqb}
 use lib.ListN.{length, getD, drop, take}
 use lib.Seq.{drop-cons}
 use borrow.Author.Tests.{leb-true, le-ltb, ne-eqb}
-use Rattle.rules.specs.Lists.{if_then_else_, within, ascii, elem, every, begins, run, same, trimEnd}
+use Rattle.rules.specs.Lists.{within, ascii, elem, every, begins, run, same, trimEnd}
 use Rattle.rules.specs.Kinds.{Ident, Num}
 use Rattle.rules.specs.Tables.{Spelling, isCR, isHexDigit, blankClass, hashClass, letterClass, digitClass, signClass, classOf, keywords, signs, wordKind, tableRules}
 use Rattle.rules.specs.Cut.{Cut, blank, comment, token, inWord, wordCut, letterCut, Number, scanNumber, numberCut, stringEnd, stringCut, closingCut, lowDigitCut, highDigitCut, escapeCut, contentCut, byteCut, signCut, cutBy, cut}
 use Rattle.rules.proofs.ListLaws.{if-by, and-true}
-use Rattle.spelling.specs.Bytes.{reaches}
-use Rattle.spelling.specs.Signs.{signCode, codeCut}
-use Rattle.spelling.proofs.ReachLaws.{run-word}
-use Rattle.spelling.proofs.SignLaws.{code-cut}
+use Rattle.tables.specs.Bytes.{reaches}
+use Rattle.tables.specs.Signs.{signCode}
+use Rattle.signs.specs.Codes.{codeCut}
+use Rattle.runs.proofs.ReachLaws.{run-word}
+use Rattle.signs.proofs.SignLaws.{code-cut}
 use Rattle.cut.specs.Cuts.{plainKind, plainCut, kindAsked, cutNamed, commentOr}
 
 -- Words.
@@ -52,9 +53,12 @@ module _ (line : List ℕ) (at end : ℕ) (e : end ≡ at + run (reaches 0) (dro
   unfolding wordCut
   word-named = ap (λ (n : ℕ). token (wordKind keywords (take n (drop at line))) n) word-size
 
-  pub word-is : (w : Bool) → token (kindAsked w (wordKind keywords (take (end - at) (drop at line)))) (end - at) ≡ cutNamed w (wordCut (drop at line))
-  word-is true = word-named
-  word-is false = ap plainCut word-named
+  word-asked : (w : Bool) → token (kindAsked w (wordKind keywords (take (end - at) (drop at line)))) (end - at) ≡ cutNamed w (wordCut (drop at line))
+  word-asked true = word-named
+  word-asked false = ap plainCut word-named
+
+  pub word-is : (w : Bool) (k : ℕ) → k ≡ kindAsked w (wordKind keywords (take (end - at) (drop at line))) → token k (end - at) ≡ cutNamed w (wordCut (drop at line))
+  word-is w k is = ap (λ (n : ℕ). token n (end - at)) is ∙ word-asked w
 
 -- Cuts that hold no word.
 
@@ -149,7 +153,7 @@ module _ (w : Bool) (line : List ℕ) (at : ℕ) (h : at < length line) where
   unfolding cutBy letterCut
   word-token e b end is =
       let letter : cutBy letterClass (drop at line) ≡ wordCut (drop at line) = rw b in
-      sym (in-class letterClass e) ∙ ap (cutNamed w) letter ∙ sym (word-is line at end is w)
+      sym (in-class letterClass e) ∙ ap (cutNamed w) letter ∙ sym (word-asked line at end is w)
 
   pub number-token : classOf (getD line at 0) ≡ digitClass → (n : Number) → n ≡ scanNumber (drop at line) → cutNamed w (cut (drop at line)) ≡ token Num (n .digits + n .suffix)
   unfolding cutBy numberCut

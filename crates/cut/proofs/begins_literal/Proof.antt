@@ -1,7 +1,6 @@
 -- `cut::begins_literal` meets its contract.
 -- Assumes nothing.
-use mathlib.Core.Path.{_≡_, sym}
-use native.Mathlib.Omega.{arith}
+use mathlib.Core.Path.{sym}
 use borrow.Author.Needs.{needs}
 use Rattle.cut.proofs.Fronts.{no-literal}
 use Rattle.cut.proofs.begins_literal.Statement.{statement}

@@ -7,8 +7,8 @@ use native.Mathlib.Omega.{arith}
 use native.Mathlib.Nat.{add-zero}
 use lib.ListN.{length, drop}
 use borrow.Author.Tests.{ne-eqb}
-use Rattle.rules.specs.Cut.{Cut, finding, cutBy}
-use Rattle.cut.specs.Cuts.{plainCut}
+use Rattle.rules.specs.Cut.{finding, cutBy, cut}
+use Rattle.cut.specs.Cuts.{plainCut, cutNamed}
 use Rattle.cut.proofs.Words.{number-plain, string-plain, sign-or-plain, in-class, plain-class}
 use borrow.Author.Needs.{needs}
 use Rattle.cut.proofs.cut_by_class.Statement.{statement}
@@ -18,6 +18,24 @@ other-cut : (k : ℕ) (s : List ℕ) → (k ≡ 0 → ⊥) → (k ≡ 1 → ⊥)
 unfolding cutBy
 other-cut k s n0 n1 n2 n3 n4 n5 = rw (ne-eqb k 0 n0, ne-eqb k 1 n1, ne-eqb k 2 n2, ne-eqb k 3 n3, ne-eqb k 4 n4, ne-eqb k 5 n5)
 
+-- The class of the byte at hand is known.
+module _ (k : tie.After-class-of) where
+  abbrev called : tie.Start
+  called = k .before .before .before
+
+  abbrev rest : List ℕ
+  rest = drop (called .args .at) (called .args .line .now)
+
+  abbrev inside : called .args .at < length (called .args .line .now)
+  inside = called .pre .1
+
+  -- what is cut by this class, and the same where it holds no word
+  of-class : (n : ℕ) → k .class-of .result ≡ n → cutNamed (called .args .named) (cutBy n rest) ≡ cutNamed (called .args .named) (cut rest)
+  of-class n e = in-class (called .args .named) (called .args .line .now) (called .args .at) inside n (sym (k .class-of .ensures) ∙ e)
+
+  plainly : (n : ℕ) → k .class-of .result ≡ n → plainCut (cutBy n rest) ≡ cutBy n rest → cutBy n rest ≡ cutNamed (called .args .named) (cut rest)
+  plainly n e p = plain-class (called .args .named) (called .args .line .now) (called .args .at) inside n (sym (k .class-of .ensures) ∙ e) p
+
 shared-slice-read-class-of : tie.Need-shared-slice-read-class-of
 shared-slice-read-class-of c = search needs
 
@@ -25,70 +43,51 @@ class-of-requires : tie.Need-class-of-requires
 class-of-requires c κs = search needs
 
 letter-cut-requires : tie.Need-letter-cut-requires
-letter-cut-requires c κs =
-    let p = c .before .before .before .before .pre in
-    (p .1 .0, (p .1 .1 .1 .1 .0, omega arith))
+letter-cut-requires c κs = called (c .before) .pre
 
 number-cut-requires : tie.Need-number-cut-requires
-number-cut-requires c κs =
-    let p = c .before .before .before .before .pre in
-    (p .1 .0, omega arith)
+number-cut-requires c κs = (called (c .before) .pre .0, omega arith)
 
 string-cut-requires : tie.Need-string-cut-requires
-string-cut-requires c κs = omega arith
+string-cut-requires c κs = inside (c .before)
 
 sign-or-comment-requires : tie.Need-sign-or-comment-requires
-sign-or-comment-requires c κs =
-    let p = c .before .before .before .before .pre in
-    (p .1 .1 .0, (p .1 .1 .1 .0, omega arith))
+sign-or-comment-requires c κs = called (c .before) .pre
 
 finding-at-requires : tie.Need-finding-at-requires
 finding-at-requires c κs = search needs
 
 returns : tie.Need-returns
 unfolding cutBy
-returns c =
-    let a = c .before .before .before .before .args in
-    plain-class (a .named) (a .line .now) (a .at) (c .before .before .before .before .pre .1 .1 .1 .1 .1) 0 (sym (c .before .class-of .ensures) ∙ c .match .keys1) refl
+returns c = plainly (c .before) 0 (c .match .keys1) refl
 
 returns-2 : tie.Need-returns-2
 unfolding cutBy
-returns-2 c =
-    let a = c .before .before .before .before .args in
-    plain-class (a .named) (a .line .now) (a .at) (c .before .before .before .before .pre .1 .1 .1 .1 .1) 1 (sym (c .before .class-of .ensures) ∙ c .match .keys2) refl
+returns-2 c = plainly (c .before) 1 (c .match .keys2) refl
 
 returns-3 : tie.Need-returns-3
 unfolding cutBy
-returns-3 c =
-    let b = c .before .before .before .before .before in
-    c .letter-cut .ensures ∙ in-class (b .args .named) (b .args .line .now) (b .args .at) (b .pre .1 .1 .1 .1 .1) 2 (sym (c .before .before .class-of .ensures) ∙ c .before .match .keys3)
+returns-3 c = c .letter-cut .ensures ∙ of-class (c .before .before) 2 (c .before .match .keys3)
 
 returns-4 : tie.Need-returns-4
 unfolding cutBy
-returns-4 c =
-    let b = c .before .before .before .before .before in
-    c .number-cut .ensures ∙ plain-class (b .args .named) (b .args .line .now) (b .args .at) (b .pre .1 .1 .1 .1 .1) 3 (sym (c .before .before .class-of .ensures) ∙ c .before .match .keys4) (number-plain (drop (b .args .at) (b .args .line .now)))
+returns-4 c = c .number-cut .ensures ∙ plainly (c .before .before) 3 (c .before .match .keys4) (number-plain (rest (c .before .before)))
 
 returns-5 : tie.Need-returns-5
 unfolding cutBy
-returns-5 c =
-    let b = c .before .before .before .before .before in
-    c .string-cut .ensures ∙ plain-class (b .args .named) (b .args .line .now) (b .args .at) (b .pre .1 .1 .1 .1 .1) 4 (sym (c .before .before .class-of .ensures) ∙ c .before .match .keys5) (string-plain (drop (b .args .at) (b .args .line .now)))
+returns-5 c = c .string-cut .ensures ∙ plainly (c .before .before) 4 (c .before .match .keys5) (string-plain (rest (c .before .before)))
 
 returns-6 : tie.Need-returns-6
 unfolding cutBy
-returns-6 c =
-    let b = c .before .before .before .before .before in
-    c .sign-or-comment .ensures ∙ plain-class (b .args .named) (b .args .line .now) (b .args .at) (b .pre .1 .1 .1 .1 .1) 5 (sym (c .before .before .class-of .ensures) ∙ c .before .match .keys6) (sign-or-plain (drop (b .args .at) (b .args .line .now)))
+returns-6 c = c .sign-or-comment .ensures ∙ plainly (c .before .before) 5 (c .before .match .keys6) (sign-or-plain (rest (c .before .before)))
 
 returns-7 : tie.Need-returns-7
 returns-7 c =
-    let b = c .before .before .before .before .before in
-    let k = c .before .before .class-of .result in
-    let s = drop (b .args .at) (b .args .line .now) in
+    let k = c .before .before in
+    let a = called k .args in
     let n = c .before .match .rest in
-    let o = other-cut k s (n .0 .0 .0 .0 .0 .1) (n .0 .0 .0 .0 .1) (n .0 .0 .0 .1) (n .0 .0 .1) (n .0 .1) (n .1) in
-    c .finding-at .ensures ∙ ap (λ (n : ℕ). finding 1 0 (drop n (b .args .line .now))) (add-zero (b .args .at)) ∙ sym o ∙ plain-class (b .args .named) (b .args .line .now) (b .args .at) (b .pre .1 .1 .1 .1 .1) k (sym (c .before .before .class-of .ensures)) (ap plainCut o ∙ sym o)
+    let o = other-cut (k .class-of .result) (rest k) (n .0 .0 .0 .0 .0 .1) (n .0 .0 .0 .0 .1) (n .0 .0 .0 .1) (n .0 .0 .1) (n .0 .1) (n .1) in
+    c .finding-at .ensures ∙ ap (λ (n : ℕ). finding 1 0 (drop n (a .line .now))) (add-zero (a .at)) ∙ sym o ∙ plainly k (k .class-of .result) refl (ap plainCut o ∙ sym o)
 
 pub cut-by-class-spec : {M : Type 1} → statement M
 cut-by-class-spec =

@@ -1,12 +1,10 @@
 -- `cut::letter_cut` meets its contract.
 -- Assumes nothing.
-use mathlib.Core.Path.{_≡_, refl, sym, ap, _∙_}
+use mathlib.Core.Path.{_≡_, sym, _∙_}
 use mathlib.Core.Bool.{true, false}
-use native.Mathlib.Omega.{arith}
-use lib.ListN.{length, drop, take}
+use lib.ListN.{drop}
 use Rattle.rules.specs.Lists.{begins, ascii}
 use Rattle.rules.specs.Cut.{byteCut, letterCut}
-use Rattle.cut.specs.Cuts.{cutNamed}
 use Rattle.cut.proofs.Fronts.{literal-room}
 use Rattle.cut.proofs.Words.{byte-plain, named-plain}
 use borrow.Author.Needs.{needs}

@@ -1,10 +1,10 @@
 -- `cut::number_cut` meets its contract.
 -- Assumes nothing.
-use Prim.Native.Nat.{ℕ, _+_, _≤_}
-use mathlib.Core.Path.{_≡_, refl, sym, ap, _∙_}
+use Prim.Native.Nat.{_+_}
+use mathlib.Core.Path.{ap}
 use native.Mathlib.Omega.{arith}
-use lib.ListN.{length, drop, length-drop}
-use Rattle.rules.specs.Cut.{Number, token, digitsSize, suffixes, suffixSize, scanNumber, numberCut}
+use lib.ListN.{drop, length-drop}
+use Rattle.rules.specs.Cut.{Number, token, digitsSize, suffixes, scanNumber, numberCut}
 use Rattle.rules.proofs.CutLaws.{digits-le, suffix-le}
 use borrow.Author.Needs.{needs}
 use Rattle.cut.proofs.number_cut.Statement.{statement}

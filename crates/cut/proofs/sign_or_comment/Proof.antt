@@ -7,8 +7,8 @@ use borrow.Author.Needs.{needs}
 use Rattle.rules.specs.Failure.{failure, expectedAnd}
 use Rattle.rules.specs.Cut.{comment, fails}
 use Rattle.cut.specs.Cuts.{commentOr}
-use Rattle.spelling.specs.Signs.{codeCut}
-use Rattle.spelling.proofs.SignLaws.{code-cut}
+use Rattle.signs.specs.Codes.{codeCut}
+use Rattle.signs.proofs.SignLaws.{code-cut}
 use Rattle.cut.proofs.Words.{code-token}
 use Rattle.cut.proofs.sign_or_comment.Statement.{statement}
 use Rattle.cut.proofs.sign_or_comment.Tie as tie

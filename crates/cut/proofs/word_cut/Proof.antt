@@ -1,12 +1,8 @@
 -- `cut::word_cut` meets its contract.
 -- Assumes nothing.
-use Prim.Native.Nat.{ℕ, _+_, _-_, _≤_}
-use mathlib.Core.Path.{_≡_, ap, _∙_}
 use native.Mathlib.Omega.{arith}
-use lib.ListN.{length}
-use Rattle.rules.specs.Cut.{token}
-use Rattle.spelling.specs.Bytes.{reaches}
-use Rattle.spelling.proofs.ReachLaws.{run-inside}
+use Rattle.tables.specs.Bytes.{reaches}
+use Rattle.runs.proofs.ReachLaws.{run-inside}
 use Rattle.cut.proofs.Words.{word-is}
 use borrow.Author.Needs.{needs}
 use Rattle.cut.proofs.word_cut.Statement.{statement}
@@ -19,17 +15,16 @@ kind-of-word-requires : tie.Need-kind-of-word-requires
 kind-of-word-requires c κs =
     let s = c .before .before in
     let end = c .run-end .ensures in
-    (s .pre .1 .0, (omega (arith, end), omega (arith, end, run-inside (reaches 0) (s .args .line .now) (s .args .at) (s .pre .1 .1))))
+    (s .pre .0, (omega (arith, end), omega (arith, end, run-inside (reaches 0) (s .args .line .now) (s .args .at) (s .pre .1))))
 
-sub-t8 : tie.Need-sub-t8
-sub-t8 c = omega (arith, c .before .run-end .ensures)
+sub-t7 : tie.Need-sub-t7
+sub-t7 c = omega (arith, c .before .run-end .ensures)
 
 returns : tie.Need-returns
 returns c =
     let a = c .before .before .before .args in
     let end = c .before .run-end in
-    ap (λ (k : ℕ). token k (end .result - a .at)) (c .kind-of-word .ensures)
-    ∙ word-is (a .line .now) (a .at) (end .result) (end .ensures) (a .named)
+    word-is (a .line .now) (a .at) (end .result) (end .ensures) (a .named) (c .kind-of-word .result) (c .kind-of-word .ensures)
 
 pub word-cut-spec : {M : Type 1} → statement M
-word-cut-spec = tie.close (tie.spec run-end-requires kind-of-word-requires sub-t8 returns)
+word-cut-spec = tie.close (tie.spec run-end-requires kind-of-word-requires sub-t7 returns)
