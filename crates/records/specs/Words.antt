@@ -1,12 +1,17 @@
--- Line records, by their words.
+-- Records, by their words.
 -- Assumes nothing.
 use Prim.Native.Nat.{ℕ, _+_, _*_}
 use mathlib.Core.Bool.{not}
-use mathlib.Core.List.{List}
+use mathlib.Core.List.{List, [], _∷_}
 use lib.Dec.{eqb}
 use lib.ListN.{getD, take, drop}
 use Rattle.rules.specs.Line.{State}
 use Rattle.rules.specs.Records.{widthWords, lineSize}
+use Rattle.records.specs.declared.Place.{Place}
+
+-- the record of a token at this offset of the line
+abbrev pub wordsAt : Place → (at kind size : ℕ) → List ℕ
+wordsAt p at kind size = kind ∷ (p .start + at) ∷ size ∷ (p .line + 1) ∷ (at + 1) ∷ []
 
 -- word x of line record i
 abbrev pub lineWord : List ℕ → (i x : ℕ) → ℕ

@@ -10,7 +10,7 @@ ghost use Rattle.rules.specs.Lists.{begins, same};
 ghost use Rattle.rules.specs.Limits.{maxLevels};
 ghost use Rattle.rules.specs.Records.{widthWords, lineSize, tokenSize, packed, stateWords, lineRecord};
 ghost use Rattle.records.specs.States.{stateOf};
-ghost use Rattle.records.specs.Words.{lineWord, stateIn, stateFrom};
+ghost use Rattle.records.specs.Words.{wordsAt, lineWord, stateIn, stateFrom};
 
 // The levels whose widths a line record holds.
 pub const LEVELS: usize = 16;
@@ -26,6 +26,14 @@ pub struct State {
     pub depth: u32,
     pub arrow: bool,
     pub levels: usize,
+}
+
+// Where the records of a line go: whether the pass writes them, the numbers of its line record and of its first token record, and its start.
+pub struct Place {
+    pub write: bool,
+    pub line: usize,
+    pub first: usize,
+    pub start: u32,
 }
 
 // Five words from an index on.
@@ -63,40 +71,36 @@ fn same_five(words: &[u32], at: usize, a: u32, b: u32, c: u32, d: u32, e: u32) -
     e == words[at + 4]
 }
 
-// Token record k, where the pass writes: kind, position, length, line, column.
-pub fn put_token(
-    tokens: &mut [u32],
-    write: bool,
-    k: usize,
-    kind: u32,
-    position: u32,
-    size: u32,
-    number: u32,
-    column: u32,
-)
-    requires { ⌜ (write ≡ true → tokenSize * k + tokenSize ≤ length (now tokens)) ⌝ }
-    ensures { λ _. ⌜ now (tokens .exit) ≡ putIf write (now (tokens .entry)) (tokenSize * k) (kind ∷ position ∷ size ∷ number ∷ column ∷ []) ⌝ }
+// The line's token n, where the pass writes, at this offset of the line: kind, position, length, line, column.
+pub fn put_token(tokens: &mut [u32], place: Place, n: usize, kind: u32, offset: u32, size: u32)
+    requires { ⌜ (place .start + offset ≤ 1_048_576) × (place .line ≤ 4_194_304) ⌝ }
+    requires { ⌜ (place .write ≡ true → tokenSize * (place .first + n) + tokenSize ≤ length (now tokens)) ⌝ }
+    ensures { λ _. ⌜ now (tokens .exit) ≡ putIf (place .write) (now (tokens .entry)) (tokenSize * (place .first + n)) (wordsAt place offset kind size) ⌝ }
 {
-    if !write {
+    if !place.write {
         return;
     }
-    put_five(tokens, TOKEN * k, kind, position, size, number, column);
+    let at = TOKEN * (place.first + n);
+    let position = place.start + offset;
+    let number = place.line as u32 + 1;
+    let column = offset + 1;
+    put_five(tokens, at, kind, position, size, number, column);
 }
 
-// Token record k has this kind, position, length, line and column.
-pub fn same_token(
-    tokens: &[u32],
-    k: usize,
-    kind: u32,
-    position: u32,
-    size: u32,
-    number: u32,
-    column: u32,
-) -> bool
-    requires { ⌜ k ≤ 10_000_000 ⌝ }
-    ensures { λ r. ⌜ r ≡ begins (kind ∷ position ∷ size ∷ number ∷ column ∷ []) (drop (tokenSize * k) (now (tokens .entry))) ⌝ }
+// The line's token n, at this offset of the line, has this kind, position, length, line and column.
+pub fn same_token(tokens: &[u32], place: Place, n: usize, kind: u32, offset: u32, size: u32) -> bool
+    requires { ⌜ (place .start + offset ≤ 1_048_576) × ((place .line ≤ 4_194_304) × (place .first + n ≤ 10_000_000)) ⌝ }
+    ensures { λ r. ⌜ r ≡ begins (wordsAt place offset kind size) (drop (tokenSize * (place .first + n)) (now (tokens .entry))) ⌝ }
 {
-    same_five(tokens, TOKEN * k, kind, position, size, number, column)
+    same_five(
+        tokens,
+        TOKEN * (place.first + n),
+        kind,
+        place.start + offset,
+        size,
+        place.line as u32 + 1,
+        offset + 1,
+    )
 }
 
 // The width of level i, 0 past the open ones.
@@ -149,29 +153,21 @@ fn same_widths(lines: &[u32], at: usize, widths: &[u32], levels: usize) -> bool
     true
 }
 
-// Line record m, where the pass writes: the start, the first token's number, the state.
-pub fn put_line(
-    lines: &mut [u32],
-    write: bool,
-    m: usize,
-    start: u32,
-    first: u32,
-    s: State,
-    widths: &[u32],
-)
-    requires { ⌜ (length (now widths) ≡ maxLevels) × (s .levels ≤ maxLevels) ⌝ }
-    requires { ⌜ (write ≡ true → lineSize * m + lineSize ≤ length (now lines)) ⌝ }
-    ensures { λ _. ⌜ now (lines .exit) ≡ putIf write (now (lines .entry)) (lineSize * m) (lineRecord start first (stateOf s (now (widths .entry)))) ⌝ }
+// The line's record, where the pass writes: the start, the first token's number, the state.
+pub fn put_line(lines: &mut [u32], place: Place, s: State, widths: &[u32])
+    requires { ⌜ (length (now widths) ≡ maxLevels) × ((s .levels ≤ maxLevels) × (place .first ≤ 4_194_304)) ⌝ }
+    requires { ⌜ (place .write ≡ true → lineSize * place .line + lineSize ≤ length (now lines)) ⌝ }
+    ensures { λ _. ⌜ now (lines .exit) ≡ putIf (place .write) (now (lines .entry)) (lineSize * place .line) (lineRecord (place .start) (place .first) (stateOf s (now (widths .entry)))) ⌝ }
 {
-    if !write {
+    if !place.write {
         return;
     }
-    let at = LINE * m;
+    let at = LINE * place.line;
     put_five(
         lines,
         at,
-        start,
-        first,
+        place.start,
+        place.first as u32,
         s.depth,
         s.arrow as u32,
         s.levels as u32,
@@ -179,20 +175,20 @@ pub fn put_line(
     put_widths(lines, at + 5, widths, s.levels);
 }
 
-// Line record m has this start, first token's number and state.
-pub fn same_line(lines: &[u32], m: usize, start: u32, first: u32, s: State, widths: &[u32]) -> bool
-    requires { ⌜ (length (now widths) ≡ maxLevels) × ((s .levels ≤ maxLevels) × (m ≤ 1_048_576)) ⌝ }
-    ensures { λ r. ⌜ r ≡ begins (lineRecord start first (stateOf s (now (widths .entry)))) (drop (lineSize * m) (now (lines .entry))) ⌝ }
+// The line's record has its start, its first token's number and this state.
+pub fn same_line(lines: &[u32], place: Place, s: State, widths: &[u32]) -> bool
+    requires { ⌜ (length (now widths) ≡ maxLevels) × ((s .levels ≤ maxLevels) × ((place .line ≤ 1_048_576) × (place .first ≤ 4_194_304))) ⌝ }
+    ensures { λ r. ⌜ r ≡ begins (lineRecord (place .start) (place .first) (stateOf s (now (widths .entry)))) (drop (lineSize * place .line) (now (lines .entry))) ⌝ }
 {
-    let at = LINE * m;
+    let at = LINE * place.line;
     if lines.len() < at + LINE {
         return false;
     }
     if !same_five(
         lines,
         at,
-        start,
-        first,
+        place.start,
+        place.first as u32,
         s.depth,
         s.arrow as u32,
         s.levels as u32,

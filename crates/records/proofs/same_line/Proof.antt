@@ -16,22 +16,22 @@ use Rattle.records.proofs.same_line.Tie as tie
 -- What the function was called with: the record is there, and then its five words decide, or the widths.
 module _ (s : tie.Start) where
   abbrev at : ℕ
-  at = lineSize * s .args .m
+  at = lineSize * s .args .place .line
 
   abbrev agrees : Bool
-  agrees = let a = s .args in begins (lineRecord (a .start) (a .first) (stateOf (a .s) (a .widths .now))) (drop at (a .lines .now))
+  agrees = let a = s .args in begins (lineRecord (a .place .start) (a .place .first) (stateOf (a .s) (a .widths .now))) (drop at (a .lines .now))
 
   abbrev then : (five : Bool) → Bool
   then five = let a = s .args in five && begins (packed (take (a .s .levels) (a .widths .now))) (drop (at + 5) (a .lines .now))
 
 module _ (f : tie.After-same-five) where
   abbrev called : tie.Start
-  called = f .before .before .before .before .before .before
+  called = f .before .before .before .before .before .before .before .before
 
   by-five : agrees called ≡ then called (f .same-five .result)
   by-five =
       let a = called .args in
-      record-then (a .lines .now) (at called) (a .start) (a .first) (a .s) (a .widths .now) (called .pre .0) (called .pre .1 .0)
+      record-then (a .lines .now) (at called) (a .place .start) (a .place .first) (a .s) (a .widths .now) (called .pre .0) (called .pre .1 .0)
       ∙ ap (then called) (sym (f .same-five .ensures))
 
 mul-at : tie.Need-mul-at
@@ -42,15 +42,18 @@ add-if1 c = search needs
 
 returns : tie.Need-returns
 returns c =
-    let s = c .before .before .before in
+    let s = c .before .before .before .before in
     let a = s .args in
-    sym (record-short (a .lines .now) (at s) (a .start) (a .first) (a .s) (a .widths .now) (s .pre .0) (s .pre .1 .0) (c .if1 .taken))
+    sym (record-short (a .lines .now) (at s) (a .place .start) (a .place .first) (a .s) (a .widths .now) (s .pre .0) (s .pre .1 .0) (c .if1 .taken))
 
 cast-same-five : tie.Need-cast-same-five
 cast-same-five c = search needs
 
 cast-same-five-2 : tie.Need-cast-same-five-2
 cast-same-five-2 c = search needs
+
+cast-same-five-3 : tie.Need-cast-same-five-3
+cast-same-five-3 c = search needs
 
 same-five-requires : tie.Need-same-five-requires
 same-five-requires c κs = search needs
@@ -78,6 +81,7 @@ same-line-spec =
     returns
     cast-same-five
     cast-same-five-2
+    cast-same-five-3
     same-five-requires
     returns-2
     add-same-widths
