@@ -1,6 +1,6 @@
 -- The cuts of a line as a loop makes them: what was cut so far, and what is left.
 -- Assumes nothing.
-use Prim.Native.Nat.{ℕ, zero, suc, _+_, _-_, _*_, _≤_, _<_, pred}
+use Prim.Native.Nat.{ℕ, suc, _+_, _-_, _*_, _≤_, _<_, pred}
 use mathlib.Core.Path.{_≡_, refl, sym, ap, subst, _∙_}
 use mathlib.Core.Bool.{Bool, true, false, not, _&&_, false≢true}
 use mathlib.Core.List.{List, [], _∷_, _++_, append-assoc, append-nil}
@@ -16,17 +16,18 @@ use Rattle.rules.specs.Line.{Token, tokenAt, Cuts, cuts, stops, withToken, move
 use Rattle.rules.specs.Records.{tokenSize, tokenWords}
 use Rattle.rules.proofs.CutLaws.{TokenOk, cut-ok, cuts-end, cuts-blank, cuts-comment, cuts-token, cuts-fails}
 use Rattle.rules.proofs.RecordLaws.{length-tokenWords}
-use Rattle.cut.specs.Cuts.{plainKind, cutNamed}
+use Rattle.cut.specs.Cuts.{cutNamed}
 use Rattle.cut.proofs.Plain.{Named, named-token, plain-eqb}
-use Rattle.rules.proofs.ListLaws.{if-by}
-use Rattle.line.specs.States.{depthBy}
-use Rattle.line.specs.LineCuts.{failureIn, lineCutsOf, tokensOf, RoomFor, cursorAt, blankPast, tokenPast, wordsAt}
-use Rattle.line.specs.declared.Place.{Place}
-use Rattle.line.specs.declared.Cursor.{Cursor}
+use Rattle.records.specs.Words.{wordsAt}
+use Rattle.records.specs.declared.Place.{Place}
+use Rattle.indent.proofs.Spaces.{spaces-le, cuts-behind}
+use Rattle.cursor.specs.Cursors.{depthBy, cursorAt, blankPast, tokenPast}
+use Rattle.cursor.specs.declared.Cursor.{Cursor}
+use Rattle.cursor.proofs.Depths.{depth-by-le}
+use Rattle.line.specs.LineCuts.{failureIn, lineCutsOf, tokensOf, RoomFor}
 use Rattle.line.specs.declared.LineCuts.{LineCuts}
 use Rattle.line.specs.declared.LineCuts.the-variants.{Ends, Stops}
 use Rattle.laws.specs.Puts.{putIf}
-use Rattle.line.proofs.Spaces.{spaces-le, cuts-behind}
 use Rattle.laws.proofs.Puts.{length-putIf, putIf-append, putIf-none, putIf-by}
 
 -- tokens in front of cuts
@@ -60,15 +61,6 @@ words-snoc : (p l : ℕ) (ts : List Token) (t : Token) → tokenWords p l (ts ++
 unfolding tokenWords
 words-snoc p l [] t = refl
 words-snoc p l (x ∷ ts) t = rw (words-snoc p l ts t)
-
-pub depth-by-le : (d kind : ℕ) → depthBy d kind ≤ d + 1
-unfolding depthBy
-depth-by-le d kind =
-    if-by (λ n. n ≤ d + 1) (eqb kind LParen) (λ _. omega arith) (λ _. if-by (λ n. n ≤ d + 1) (eqb kind RParen) (λ _. pred-le d) (λ _. omega arith))
-  where
-    pred-le : (n : ℕ) → pred n ≤ n + 1
-    pred-le zero = omega arith
-    pred-le (suc n) = omega arith
 
 -- a token that a pass is given at an offset: its real kind, and its bytes in the line
 pub record TokenAt (w : Bool) (l : List ℕ) (at kind size : ℕ) : Type 0 where
@@ -106,7 +98,7 @@ module _ (l : List ℕ) (d₀ : ℕ) (place : Place) (tokens₀ : List ℕ) wher
     pub depth-is : depthAfter d₀ done ≡ t .«open»
     pub shallow : t .«open» ≤ d₀ + t .at
     pub arrow-is : arrowAfter false done ≡ t .arrow
-    pub words : tokens ≡ putIf (place .write) tokens₀ (tokenSize * place .first) (tokenWords (place .position) (place .number) done)
+    pub words : tokens ≡ putIf (place .write) tokens₀ (tokenSize * place .first) (tokenWords (place .start) (place .line + 1) done)
 
   pub start : (spaces : ℕ) → spaces ≡ run isSpace l → Progress tokens₀ (cursorAt spaces d₀)
   unfolding depthAfter arrowAfter tokenWords
@@ -125,7 +117,7 @@ module _ (l : List ℕ) (d₀ : ℕ) (place : Place) (tokens₀ : List ℕ) wher
 
 module _ {l : List ℕ} {d₀ : ℕ} {place : Place} {tokens₀ tokens : List ℕ} {t : Cursor} (v : Progress l d₀ place tokens₀ tokens t) where
   pub same-tokens : length tokens ≡ length tokens₀
-  same-tokens = ap length (v .words) ∙ length-putIf (place .write) tokens₀ (tokenSize * place .first) (tokenWords (place .position) (place .number) (v .done))
+  same-tokens = ap length (v .words) ∙ length-putIf (place .write) tokens₀ (tokenSize * place .first) (tokenWords (place .start) (place .line + 1) (v .done))
 
   pub at-end : length l ≤ t .at → cutsFrom 0 0 l ≡ cuts (v .done)
   unfolding withTokens
@@ -161,7 +153,7 @@ module _ {l : List ℕ} {d₀ : ℕ} {place : Place} {tokens₀ tokens : List �
       one = tokenAt (x .real) (t .at) size
 
       abbrev before : List ℕ
-      before = tokenWords (place .position) (place .number) (v .done)
+      before = tokenWords (place .start) (place .line + 1) (v .done)
 
       given : (j : ℕ) → Ident < j → eqb (x .real) j ≡ eqb kind j
       given j h = plain-eqb j (x .real) kind h (x .named .plain)
@@ -171,15 +163,15 @@ module _ {l : List ℕ} {d₀ : ℕ} {place : Place} {tokens₀ tokens : List �
       depth-then = depth-snoc d₀ (v .done) one ∙ rw (v .depth-is, given LParen (omega arith), given RParen (omega arith)) refl
 
       words-then : putIf (place .write) tokens (tokenSize * (place .first + t .n)) (wordsAt place (t .at) kind size)
-          ≡ putIf (place .write) tokens₀ (tokenSize * place .first) (tokenWords (place .position) (place .number) (v .done ++ (one ∷ [])))
+          ≡ putIf (place .write) tokens₀ (tokenSize * place .first) (tokenWords (place .start) (place .line + 1) (v .done ++ (one ∷ [])))
       words-then =
           let at : ℕ = tokenSize * (place .first + t .n) in
           let ws : List ℕ = wordsAt place (t .at) kind size in
           ap (λ (ts : List ℕ). putIf (place .write) ts at ws) (v .words)
-          ∙ putIf-append (place .write) tokens₀ (tokenSize * place .first) at before ws (omega (arith, length-tokenWords (place .position) (place .number) (v .done), v .count))
-          ∙ putIf-by (place .write) tokens₀ (tokenSize * place .first) _ (tokenWords (place .position) (place .number) (v .done ++ (one ∷ [])))
+          ∙ putIf-append (place .write) tokens₀ (tokenSize * place .first) at before ws (omega (arith, length-tokenWords (place .start) (place .line + 1) (v .done), v .count))
+          ∙ putIf-by (place .write) tokens₀ (tokenSize * place .first) _ (tokenWords (place .start) (place .line + 1) (v .done ++ (one ∷ [])))
           (λ w. ap (λ (k : ℕ). before ++ wordsAt place (t .at) k size) (sym (x .named .real w))
-          ∙ ap (λ (c : ℕ). before ++ (x .real ∷ (place .position + t .at) ∷ size ∷ place .number ∷ c ∷ [])) (add-one (t .at)) ∙ sym (words-snoc (place .position) (place .number) (v .done) one))
+          ∙ ap (λ (c : ℕ). before ++ (x .real ∷ (place .start + t .at) ∷ size ∷ (place .line + 1) ∷ c ∷ [])) (add-one (t .at)) ∙ sym (words-snoc (place .start) (place .line + 1) (v .done) one))
 
       past : Progress l d₀ place tokens₀ (putIf (place .write) tokens (tokenSize * (place .first + t .n)) (wordsAt place (t .at) kind size)) (tokenPast t kind size)
       past =
@@ -215,18 +207,18 @@ module _ {l : List ℕ} {d₀ : ℕ} {place : Place} {tokens₀ tokens : List �
   -- The line is done: all that was cut stands there, or the pass does not write.
 
   abbrev Done : LineCuts → Type 0
-  Done r = (r ≡ lineCutsOf d₀ (cutsFrom 0 0 l)) × (tokens ≡ putIf (place .write) tokens₀ (tokenSize * place .first) (tokenWords (place .position) (place .number) (tokensOf (cutsFrom 0 0 l))))
+  Done r = (r ≡ lineCutsOf d₀ (cutsFrom 0 0 l)) × (tokens ≡ putIf (place .write) tokens₀ (tokenSize * place .first) (tokenWords (place .start) (place .line + 1) (tokensOf (cutsFrom 0 0 l))))
 
   pub ended : cutsFrom 0 0 l ≡ cuts (v .done) → Done (Ends (t .n) (t .«open») (t .arrow))
   ended e = (
     (λ i. Ends (sym (v .count) i) (sym (v .depth-is) i) (sym (v .arrow-is) i)) ∙ ap (lineCutsOf d₀) (sym e),
-    v .words ∙ ap (λ (x : Cuts). putIf (place .write) tokens₀ (tokenSize * place .first) (tokenWords (place .position) (place .number) (tokensOf x))) (sym e),
+    v .words ∙ ap (λ (x : Cuts). putIf (place .write) tokens₀ (tokenSize * place .first) (tokenWords (place .start) (place .line + 1) (tokensOf x))) (sym e),
   )
 
   pub stopped : (f : Failure) (m : ℕ) → cutsFrom 0 0 l ≡ stops f → (place .write ≡ true → RoomFor (cutsFrom 0 0 l) (place .first) m) → Done (Stops (failureIn f))
   stopped f m e room = (
     ap (lineCutsOf d₀) (sym e),
-    v .words ∙ putIf-by (place .write) tokens₀ (tokenSize * place .first) (tokenWords (place .position) (place .number) (v .done)) (tokenWords (place .position) (place .number) (tokensOf (cutsFrom 0 0 l)))
+    v .words ∙ putIf-by (place .write) tokens₀ (tokenSize * place .first) (tokenWords (place .start) (place .line + 1) (v .done)) (tokenWords (place .start) (place .line + 1) (tokensOf (cutsFrom 0 0 l)))
         (λ w. absurd (subst (λ (x : Cuts). RoomFor x (place .first) m) e (room w))),
   )
 

@@ -1,30 +1,28 @@
 -- A whole line: what stands at its start, its cuts, its Newline.
 -- Assumes nothing.
-use Prim.Native.Nat.{ℕ, suc, _+_, _*_, _≤_}
+use Prim.Native.Nat.{ℕ, _+_, _*_, _≤_}
 use mathlib.Core.Path.{_≡_, refl, sym, ap, subst, _∙_}
 use mathlib.Core.Bool.{Bool, true, false}
 use mathlib.Core.List.{List, [], _∷_, _++_, append-assoc}
 use native.Mathlib.Omega.{arith}
-use native.Mathlib.Nat.{add-zero}
 use native.Mathlib.Numerals.{add-one}
-use lib.ListN.{length, take, length-append, length-replicate}
-use Rattle.rules.specs.Lists.{if_then_else_}
-use Rattle.rules.specs.Kinds.{Indent, Newline}
+use lib.ListN.{length, take, length-append}
+use Rattle.rules.specs.Kinds.{Newline}
 use Rattle.rules.specs.Failure.{Failure, failure, badIndent}
 use Rattle.rules.specs.Limits.{maxLevels, LineLimits}
-use Rattle.rules.specs.Line.{Token, tokenAt, dedents, Cuts, cuts, stops, cutsFrom, depthAfter, arrowAfter, State, Levels, levels, unequal, beyond, indentSize, levelsOf, failed, overLimit, LineReply, lineReads, lineHalts, withCuts, withLevels, readLine}
+use Rattle.rules.specs.Line.{Token, tokenAt, Cuts, cuts, stops, cutsFrom, depthAfter, arrowAfter, State, Levels, levels, unequal, beyond, indentSize, levelsOf, failed, overLimit, LineReply, lineHalts, withCuts, withLevels, readLine}
 use Rattle.rules.specs.Records.{tokenSize, tokenWords}
 use Rattle.rules.proofs.RecordLaws.{length-tokenWords}
 use Rattle.rules.proofs.BoundLaws.{cuts-ok}
 use Rattle.laws.specs.Puts.{putIf}
-use Rattle.laws.proofs.Puts.{length-putIf, putIf-append, putIf-none, putIf-by}
-use Rattle.cut.specs.declared.Failure as cut-failure
-use Rattle.line.specs.States.{leading, comparedOf}
-use Rattle.line.specs.declared.Compared.{Compared}
-use Rattle.line.specs.declared.Compared.the-variants as compared-variants
+use Rattle.laws.proofs.Puts.{putIf-append, putIf-by}
+use Rattle.literals.specs.declared.Failure as code
+use Rattle.levels.specs.Levels.{leading, comparedOf}
+use Rattle.levels.specs.declared.Compared.{Compared}
+use Rattle.levels.specs.declared.Compared.the-variants as compared-variants
 use Rattle.line.specs.declared.LineRead.{LineRead}
-use Rattle.line.specs.LineCuts.{failureIn, lineCutsOf, tokensOf, RoomFor, wholeLine, lineReadOf, tokensIn, RoomIn, countedReads, counted, countedOf, LevelsWithin}
-use Rattle.line.specs.declared.Lead.{Lead}
+use Rattle.line.specs.LineCuts.{lineCutsOf, tokensOf, RoomFor, wholeLine, lineReadOf, tokensIn, RoomIn, countedReads, counted, countedOf, LevelsWithin}
+use Rattle.levels.specs.declared.Lead.{Lead}
 use Rattle.line.specs.declared.LineCuts.{LineCuts}
 use Rattle.line.specs.declared.LineCuts.the-variants.{Ends, Stops}
 
@@ -33,32 +31,13 @@ unfolding tokenWords
 words-append p l [] ys = refl
 words-append p l (x ∷ xs) ys = rw (words-append p l xs ys)
 
--- What stands at a line's start.
-
-pub lead-opens : (lead : Lead) → lead .opens ≡ true → leading lead ≡ tokenAt Indent 0 0 ∷ []
-lead-opens lead e = rw e
-
-pub lead-closes : (lead : Lead) → lead .opens ≡ false → leading lead ≡ dedents (lead .closes)
-lead-closes lead e = rw e
-
-pub indent-words : (p l : ℕ) → tokenWords p l (tokenAt Indent 0 0 ∷ []) ≡ Indent ∷ p ∷ 0 ∷ l ∷ 1 ∷ []
-unfolding tokenWords
-indent-words p l = rw add-zero
-
-pub lead-le : (lead : Lead) → lead .closes ≤ maxLevels → length (leading lead) ≤ maxLevels
-lead-le lead h = go (lead .opens)
-  where
-    go : (b : Bool) → length (if b then tokenAt Indent 0 0 ∷ [] else dedents (lead .closes)) ≤ maxLevels
-    go true = omega arith
-    go false = omega (arith, length-replicate (lead .closes) (tokenAt 91 0 0))
-
 -- The answers of the cuts.
 
 pub line-ends : (d : ℕ) (x : Cuts) (n o : ℕ) (a : Bool) → lineCutsOf d x ≡ Ends n o a → (ts : List Token) × (x ≡ cuts ts) × (length ts ≡ n)
 line-ends d (cuts ts) n o a e = (ts, refl, cc)
 line-ends d (stops f) n o a e = let z : _≡_ {A = ℕ} 0 1 = cc in absurd (omega arith)
 
-pub line-stops : (d : ℕ) (x : Cuts) (g : cut-failure.Failure) → lineCutsOf d x ≡ Stops g → (f : Failure) × (x ≡ stops f)
+pub line-stops : (d : ℕ) (x : Cuts) (g : code.Failure) → lineCutsOf d x ≡ Stops g → (f : Failure) × (x ≡ stops f)
 line-stops d (cuts ts) g e = let z : _≡_ {A = ℕ} 0 1 = cc in absurd (omega arith)
 line-stops d (stops f) g e = (f, refl)
 
@@ -94,7 +73,7 @@ module _ (lead : Lead) (line : List ℕ) (p l k m : ℕ) (w : Bool) (t₀ t₁ t
         ∙ ap (putIf w t₀ (tokenSize * k)) (sym (words-append p l (leading lead) (tokensOf x)))
 
     pub whole-ends : (ts : List Token) (n : ℕ) (t₃ : List ℕ) → x ≡ cuts ts → length ts ≡ n
-        → t₃ ≡ putIf w t₂ (tokenSize * (k + m + n)) (Newline ∷ (p + length line) ∷ 0 ∷ l ∷ (length line + 1) ∷ [])
+        → t₃ ≡ putIf w t₂ (tokenSize * (k + (m + n))) (Newline ∷ (p + length line) ∷ 0 ∷ l ∷ (length line + 1) ∷ [])
         → t₃ ≡ putIf w t₀ (tokenSize * k) (tokenWords p l (tokensOf (wholeLine lead line x)))
     unfolding tokenWords
     whole-ends ts n t₃ e count e₃ =
@@ -102,10 +81,10 @@ module _ (lead : Lead) (line : List ℕ) (p l k m : ℕ) (w : Bool) (t₀ t₁ t
         let nl : List Token = tokenAt Newline (length line) 0 ∷ [] in
         let two : List ℕ = tokenWords p l (leading lead ++ ts) in
         let two-is : t₂ ≡ putIf w t₀ (tokenSize * k) two = joined ∙ ap (λ (y : Cuts). putIf w t₀ (tokenSize * k) (tokenWords p l (leading lead ++ tokensOf y))) e in
-        let long : tokenSize * (k + m + n) ≡ tokenSize * k + length two = omega (arith, length-tokenWords p l (leading lead ++ ts), length-append (leading lead) ts) in
+        let long : tokenSize * (k + (m + n)) ≡ tokenSize * k + length two = omega (arith, length-tokenWords p l (leading lead ++ ts), length-append (leading lead) ts) in
         let end-is : end ≡ tokenWords p l nl = ap (λ (i : ℕ). Newline ∷ (p + length line) ∷ 0 ∷ l ∷ i ∷ []) (add-one (length line)) in
-        e₃ ∙ ap (λ (t : List ℕ). putIf w t (tokenSize * (k + m + n)) end) two-is
-        ∙ putIf-append w t₀ (tokenSize * k) (tokenSize * (k + m + n)) two end long
+        e₃ ∙ ap (λ (t : List ℕ). putIf w t (tokenSize * (k + (m + n))) end) two-is
+        ∙ putIf-append w t₀ (tokenSize * k) (tokenSize * (k + (m + n))) two end long
         ∙ ap (λ (v : List ℕ). putIf w t₀ (tokenSize * k) (two ++ v)) end-is
         ∙ ap (putIf w t₀ (tokenSize * k)) (sym (words-append p l (leading lead ++ ts) nl) ∙ ap (tokenWords p l) (append-assoc (leading lead) ts nl))
         ∙ ap (λ (y : Cuts). putIf w t₀ (tokenSize * k) (tokenWords p l (tokensOf (wholeLine lead line y)))) (sym e)

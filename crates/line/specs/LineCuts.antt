@@ -3,20 +3,17 @@
 use Prim.Native.Nat.{ℕ, _+_, _*_, _≤_}
 use mathlib.Core.Bool.{false}
 use mathlib.Core.List.{List, [], _∷_, _++_}
-use lib.Dec.{eqb}
 use lib.ListN.{length}
 use Rattle.rules.specs.Failure as rules-failure
-use Rattle.rules.specs.Kinds.{Implies, Newline}
+use Rattle.rules.specs.Kinds.{Newline}
 use Rattle.rules.specs.Line.{Token, tokenAt, Cuts, cuts, stops, depthAfter, arrowAfter, State, Halt, failed, overLimit, LineReply, lineReads, lineHalts}
-use Rattle.cut.specs.Cuts.{failureOf}
-use Rattle.cut.specs.declared.Failure.{Failure}
+use Rattle.literals.specs.Cuts.{failureOf}
+use Rattle.literals.specs.declared.Failure.{Failure}
 use Rattle.rules.specs.Limits.{maxLevels}
 use Rattle.rules.specs.Records.{tokenSize}
 use Rattle.records.specs.States.{stateOf}
-use Rattle.line.specs.States.{leading, depthBy}
-use Rattle.line.specs.declared.Lead.{Lead}
-use Rattle.line.specs.declared.Place.{Place}
-use Rattle.line.specs.declared.Cursor.{Cursor}
+use Rattle.levels.specs.Levels.{leading}
+use Rattle.levels.specs.declared.Lead.{Lead}
 use Rattle.line.specs.declared.LineRead.{LineRead}
 use Rattle.line.specs.declared.LineRead.the-variants.{Reads, Fails, OverLimit}
 use Rattle.line.specs.declared.LineCuts.{LineCuts}
@@ -38,20 +35,6 @@ tokensOf (stops f) = []
 abbrev pub RoomFor : Cuts → (k n : ℕ) → Type 0
 RoomFor (cuts ts) k n = tokenSize * (k + length ts) ≤ n
 RoomFor (stops f) k n = ⊥
-
--- the cursor before the first token, past a blank byte, and past a token of this kind and length
-abbrev pub cursorAt : (at depth : ℕ) → Cursor
-cursorAt at depth = record { at = at; n = 0; «open» = depth; arrow = false }
-
-abbrev pub blankPast : Cursor → Cursor
-blankPast t = record { at = t .at + 1; n = t .n; «open» = t .«open»; arrow = t .arrow }
-
-abbrev pub tokenPast : Cursor → (kind size : ℕ) → Cursor
-tokenPast t kind size = record { at = t .at + size; n = t .n + 1; «open» = depthBy (t .«open») kind; arrow = eqb kind Implies }
-
--- the record of that token
-abbrev pub wordsAt : Place → (at kind size : ℕ) → List ℕ
-wordsAt p at kind size = kind ∷ (p .position + at) ∷ size ∷ p .number ∷ (at + 1) ∷ []
 
 -- The whole line.
 

@@ -1,39 +1,41 @@
 -- `line::cut_line` meets its contract. So far the cuts before the cursor are done.
 -- Assumes nothing.
 use Prim.Native.Nat.{ℕ, _+_, _-_, _*_, _/_, _%_, _≤_, _<_}
-use mathlib.Core.Path.{_≡_, refl, sym, ap, subst, _∙_}
+use mathlib.Core.Path.{_≡_, sym, ap, subst, _∙_}
 use mathlib.Core.Bool.{true, false}
 use mathlib.Core.List.{List}
 use native.Mathlib.Omega.{arith}
 use borrow.Author.Needs.{needs}
 use borrow.Author.Tests.{eqb-true}
 use lib.Dec.{eqb}
-use lib.ListN.{length, getD, drop, take}
+use lib.ListN.{length, getD, drop}
 use Rattle.rules.specs.Failure.{Failure}
 use Rattle.rules.specs.Lists.{ascii, begins}
 use Rattle.rules.specs.Tables.{letterClass, classOf}
 use Rattle.rules.specs.Cut.{token, fails, cut}
 use Rattle.rules.specs.Records.{tokenSize}
 use Rattle.rules.specs.Line.{movedBy, cutsFrom}
-use Rattle.spelling.specs.Bytes.{reaches}
-use Rattle.spelling.proofs.ReachLaws.{run-inside}
-use Rattle.cut.specs.declared.Cut.{Cut}
-use Rattle.cut.specs.Cuts.{cutOf, failureOf, numberOf, cutNamed}
+use Rattle.tables.specs.Bytes.{reaches}
+use Rattle.runs.proofs.ReachLaws.{run-inside}
+use Rattle.numbers.specs.Numbers.{numberOf}
+use Rattle.literals.specs.declared.Cut.{Cut}
+use Rattle.literals.specs.Cuts.{cutOf, failureOf}
+use Rattle.cut.specs.Cuts.{cutNamed}
 use Rattle.cut.proofs.Words.{blank-cut, hash-cut, word-token, number-token, sign-token}
 use Rattle.cut.proofs.Plain.{named-blank, named-comment, named-fails}
-use Rattle.line.specs.LineCuts.{tokenPast}
-use Rattle.line.specs.declared.Place.{Place}
+use Rattle.records.specs.declared.Place.{Place}
+use Rattle.cursor.specs.Cursors.{tokenPast}
+use Rattle.cursor.specs.declared.Cursor.{Cursor}
 use Rattle.line.specs.declared.LineCuts.the-variants.{Stops}
-use Rattle.line.specs.declared.Cursor.{Cursor}
 use Rattle.line.proofs.Progress.{Progress, start, same-tokens, at-end, at-comment, at-failure, past-blank, past-token, room-for, ended, stopped, all-room, TokenAt, token-at, failure-at, word-begins}
 use Rattle.line.proofs.cut_line.Statement.{statement}
 use Rattle.line.proofs.cut_line.Tie as tie
 
 abbrev Inv-loop : tie.InvT-loop
-Inv-loop class reach index signs keywords line spaces tokens₀ place depth t₀ tokens t = Progress line depth place tokens₀ tokens t
+Inv-loop tables line spaces tokens₀ place depth t₀ tokens t = Progress line depth place tokens₀ tokens t
 
 abbrev μ-loop : tie.MeasureT-loop
-μ-loop class reach index signs keywords line spaces tokens₀ place depth t₀ tokens t = length line - t .at
+μ-loop tables line spaces tokens₀ place depth t₀ tokens t = length line - t .at
 
 -- A turn of the loop, with what the function was called with.
 module _ (l : tie.Then1 Inv-loop μ-loop) where
@@ -55,20 +57,20 @@ module _ (l : tie.Then1 Inv-loop μ-loop) where
   abbrev more : t .at < length line
   more = l .if1 .taken
 
-  far : (place .position + length line ≤ 1_048_576) × (place .first + t .n < 5_242_880) × (t .«open» < 5_242_880)
+  far : (place .start + length line ≤ 1_048_576) × (t .n ≤ 1_048_576) × (t .«open» < 5_242_880)
   far =
-      let p = called .pre .1 .1 .1 .1 .1 .1 .0 in
-      (p .0, omega (arith, p .0, p .1 .1, more, so-far .few), omega (arith, p .0, p .1 .0, more, so-far .shallow))
+      let p = called .pre .1 .1 .0 in
+      (p .0, omega (arith, p .0, more, so-far .few), omega (arith, p .0, p .1 .1, more, so-far .shallow))
 
   -- A token at the cursor: there is room to pass it, and the cursor goes on.
   module _ {kind size : ℕ} (x : TokenAt (place .write) line (t .at) kind size) where
     room : place .write ≡ true → tokenSize * (place .first + t .n) + tokenSize ≤ length (l .before .before .loop .tokens)
     room w =
-        let r = all-room (cutsFrom 0 0 line) (place .first) (length (called .args .tokens .now)) (called .pre .1 .1 .1 .1 .1 .1 .1 w) in
+        let r = all-room (cutsFrom 0 0 line) (place .first) (length (called .args .tokens .now)) (called .pre .1 .1 .1 w) in
         omega (arith, r .2, room-for so-far more x (r .0) (r .1), same-tokens so-far)
 
-    may-pass : ((place .position + (t .at + size) ≤ 1_048_576) × ((place .first + t .n ≤ 8_388_608) × (t .«open» ≤ 8_388_608))) × (place .write ≡ true → tokenSize * (place .first + t .n) + tokenSize ≤ length (l .before .before .loop .tokens))
-    may-pass = ((omega (arith, far .0, x .in-line), (omega (arith, far .1), omega (arith, far .2))), room)
+    may-pass : ((place .start + (t .at + size) ≤ 1_048_576) × ((place .line ≤ 4_194_304) × ((t .n ≤ 8_388_608) × (t .«open» ≤ 8_388_608)))) × (place .write ≡ true → tokenSize * (place .first + t .n) + tokenSize ≤ length (l .before .before .loop .tokens))
+    may-pass = ((omega (arith, far .0, x .in-line), (called .pre .1 .1 .0 .1 .0, (omega (arith, far .1), omega (arith, far .2)))), room)
 
     goes-on : (t′ : Cursor) → t′ ≡ tokenPast t kind size → length line - t′ .at < length line - t .at
     goes-on t′ e = omega (arith, ap (λ (y : Cursor). y .at) e, x .some-bytes, more)
@@ -181,7 +183,7 @@ loop-holds c =
     let s = c .before .before .before in
     let a = s .args in
     subst (Progress (a .line .now) (a .depth) (a .place) (a .tokens .now) (a .tokens .now)) (sym (c .cursor-at .ensures))
-    (start (a .line .now) (a .depth) (a .place) (a .tokens .now) (a .spaces) (s .pre .1 .1 .1 .1 .1 .0))
+    (start (a .line .now) (a .depth) (a .place) (a .tokens .now) (a .spaces) (s .pre .1 .0))
 
 shared-slice-read-class-of : tie.Need-shared-slice-read-class-of Inv-loop μ-loop
 shared-slice-read-class-of c = more (c .before)
@@ -216,10 +218,10 @@ is-word-requires c κs = more (turn (c .before .before))
 run-end-requires : tie.Need-run-end-requires Inv-loop μ-loop
 run-end-requires c κs =
     let l = turn (c .before .before .before .before) in
-    (called l .pre .1 .0, (so-far l .inside, omega arith))
+    (called l .pre .0, (so-far l .inside, omega arith))
 
 kind-of-word-requires : tie.Need-kind-of-word-requires Inv-loop μ-loop
-kind-of-word-requires c κs = (called (turn (byte c)) .pre .1 .1 .1 .1 .0, end-inside c)
+kind-of-word-requires c κs = (called (turn (byte c)) .pre .0, end-inside c)
 
 sub-past-token : tie.Need-sub-past-token Inv-loop μ-loop
 sub-past-token c = end-inside (c .before .before) .0
@@ -240,7 +242,7 @@ loop-again-2 c =
     past-token (so-far l) (more l) (word (word-of c)) _ (p .0) _ (p .1)
 
 scan-number-requires : tie.Need-scan-number-requires Inv-loop μ-loop
-scan-number-requires c κs = let l = turn (no-word (c .before)) in (called l .pre .1 .0, so-far l .inside)
+scan-number-requires c κs = let l = turn (no-word (c .before)) in (called l .pre .0, so-far l .inside)
 
 add-past-token : tie.Need-add-past-token Inv-loop μ-loop
 add-past-token c =
@@ -266,7 +268,7 @@ loop-again-3 c =
 sign-code-requires : tie.Need-sign-code-requires Inv-loop μ-loop
 sign-code-requires c κs =
     let l = turn (no-word (c .before .before)) in
-    (called l .pre .1 .1 .0, (called l .pre .1 .1 .1 .0, more l))
+    (called l .pre .0, more l)
 
 past-sign-requires : tie.Need-past-sign-requires Inv-loop μ-loop
 past-sign-requires c κs = may-pass (turn (first-byte (c .before))) (sign (c .before))
@@ -286,8 +288,7 @@ loop-again-4 c =
 cut-by-class-requires : tie.Need-cut-by-class-requires Inv-loop μ-loop
 cut-by-class-requires c κs =
     let l = turn (no-word (c .before .before)) in
-    let p = called l .pre in
-    (p .0, (p .1 .0, (p .1 .1 .0, (p .1 .1 .1 .0, (p .1 .1 .1 .1 .0, more l)))))
+    (called l .pre .0, more l)
 
 enum-told : tie.Need-enum-told Inv-loop μ-loop
 enum-told c = search needs
@@ -349,7 +350,7 @@ returns-3 : tie.Need-returns-3 Inv-loop μ-loop
 returns-3 c =
     let f = c .before in
     let l = at-cut (cut-at f) in
-    let s = stopped (so-far l) (movedBy (t l .at) (failure f)) _ (at-failure (so-far l) (more l) (failure f) (fails-at f)) (called l .pre .1 .1 .1 .1 .1 .1 .1) in
+    let s = stopped (so-far l) (movedBy (t l .at) (failure f)) _ (at-failure (so-far l) (more l) (failure f) (fails-at f)) (called l .pre .1 .1 .1) in
     (ap Stops (c .moved-by .ensures) ∙ s .0, s .1)
 
 same-length-4 : tie.Need-same-length-4 Inv-loop μ-loop

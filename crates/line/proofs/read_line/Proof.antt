@@ -1,22 +1,23 @@
 -- `line::read_line` meets its contract.
 -- Assumes nothing.
 use Prim.Native.Nat.{ℕ, _+_, _*_, _≤_}
-use mathlib.Core.Path.{_≡_, refl, sym, ap, subst, _∙_}
-use mathlib.Core.List.{List, []}
+use mathlib.Core.Path.{_≡_, sym, ap, subst, _∙_}
+use mathlib.Core.List.{List}
 use native.Mathlib.Omega.{arith}
 use borrow.Author.Needs.{needs}
 use lib.ListN.{length, take}
 use Rattle.rules.specs.Failure.{failure, badIndent}
 use Rattle.rules.specs.Limits.{maxLevels, LineLimits}
-use Rattle.rules.specs.Line.{State, Token, Levels, levels, LineReply, lineHalts, Halt, failed, cutsFrom, levelsOf, readLine}
+use Rattle.rules.specs.Line.{State, Token, levels, lineHalts, Halt, failed, cutsFrom, levelsOf, readLine}
 use Rattle.rules.specs.Records.{tokenSize, tokenWords}
 use Rattle.laws.specs.Puts.{putIf}
 use Rattle.laws.proofs.Puts.{putIf-none}
 use Rattle.records.specs.States.{stateOf}
+use Rattle.records.specs.declared.Place.{Place}
 use Rattle.refusals.specs.Limits.{lineLimitsOf}
-use Rattle.line.specs.States.{leading, Within}
+use Rattle.levels.specs.Levels.{leading, Within}
+use Rattle.levels.specs.declared.Lead.{Lead}
 use Rattle.line.specs.LineCuts.{lineCutsOf, tokensIn, counted, countedHalts}
-use Rattle.line.specs.declared.Lead.{Lead}
 use Rattle.line.proofs.Whole.{read-unequal, read-beyond, levels-known, line-counted, line-tokens, line-room, levels-within}
 use Rattle.line.proofs.read_line.Statement.{statement}
 use Rattle.line.proofs.read_line.Tie as tie
@@ -32,17 +33,23 @@ module _ (s : tie.Start) where
   abbrev lim : LineLimits
   lim = lineLimitsOf (s .args .limits)
 
+  abbrev place : Place
+  place = s .args .place
+
+  -- its tokens put at their place
+  abbrev with-tokens : List Token → List ℕ
+  with-tokens ts = putIf (place .write) (s .args .tokens .now) (tokenSize * place .first) (tokenWords (place .start) (place .line + 1) ts)
+
   -- a line that does not read writes no tokens
-  no-tokens : (h : Halt) → readLine lim state line ≡ lineHalts h
-      → s .args .tokens .now ≡ putIf (s .args .write) (s .args .tokens .now) (tokenSize * s .args .k) (tokenWords (s .args .position) (s .args .number) (tokensIn (readLine lim state line)))
+  no-tokens : (h : Halt) → readLine lim state line ≡ lineHalts h → s .args .tokens .now ≡ with-tokens (tokensIn (readLine lim state line))
   unfolding tokenWords
-  no-tokens h e = rw e (sym (putIf-none (s .args .write) (s .args .tokens .now) (tokenSize * s .args .k)))
+  no-tokens h e = rw e (sym (putIf-none (place .write) (s .args .tokens .now) (tokenSize * place .first)))
 
 abbrev called : tie.After-leading-spaces → tie.Start
 called c = c .before .before .before .before
 
 leading-spaces-requires : tie.Need-leading-spaces-requires
-leading-spaces-requires c κs = c .before .before .before .pre .1 .0
+leading-spaces-requires c κs = c .before .before .before .pre .0
 
 -- The levels are compared.
 module _ (v : tie.After-levels-of) where
@@ -65,7 +72,7 @@ module _ (k : tie.After-known-told) where
 
 levels-of-requires : tie.Need-levels-of-requires
 levels-of-requires c κs =
-    let q = called (c .before) .pre .1 .1 .1 .1 .1 in
+    let q = called (c .before) .pre .1 in
     ((omega (arith, q .0 .0), q .1 .0 .0, q .1 .0 .1, q .1 .0 .2), c .before .leading-spaces .ensures)
 
 enum-known-lead : tie.Need-enum-known-lead
@@ -75,26 +82,13 @@ cut-after-requires : tie.Need-cut-after-requires
 cut-after-requires c κs =
     let k = c .before in
     let s = start (compared k) in
-    let p = s .pre in
-    let q = p .1 .1 .1 .1 .1 in (
-      p .0,
+    let q = s .pre .1 in (
+      s .pre .0,
       (
-        p .1 .0,
+        q .0,
         (
-          p .1 .1 .0,
-          (
-            p .1 .1 .1 .0,
-            (
-              p .1 .1 .1 .1 .0,
-              (
-                q .0,
-                (
-                  (within k .1, compared k .before .before .leading-spaces .ensures),
-                  λ w. line-room (lim s) (state s) (line s) (lead k) _ (levels-are k) (s .args .k) (length (s .args .tokens .now)) (q .1 .1 w),
-                ),
-              ),
-            ),
-          ),
+          (within k .1, compared k .before .before .leading-spaces .ensures),
+          λ w. line-room (lim s) (state s) (line s) (lead k) _ (levels-are k) (place s .first) (length (s .args .tokens .now)) (q .1 .1 w),
         ),
       ),
     )
@@ -125,7 +119,7 @@ returns c =
         levels-within (lead k) (lineCutsOf (a .s .depth) (cutsFrom 0 0 (line s))) _ (x .cut-after .ensures .0) (within k .0),
         (
           compared k .levels-of .ensures .1 .1,
-          x .cut-after .ensures .1 ∙ ap (λ (ts : List Token). putIf (a .write) (a .tokens .now) (tokenSize * a .k) (tokenWords (a .position) (a .number) ts)) (line-tokens (lim s) (state s) (line s) (lead k) _ (levels-are k)),
+          x .cut-after .ensures .1 ∙ ap (with-tokens s) (line-tokens (lim s) (state s) (line s) (lead k) _ (levels-are k)),
         ),
       ),
     )

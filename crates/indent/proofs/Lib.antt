@@ -1,0 +1,2 @@
+pub mod Indents
+pub mod Spaces

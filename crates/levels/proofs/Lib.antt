@@ -1,0 +1,3 @@
+pub mod Widths
+pub mod Levels
+pub mod Leading
