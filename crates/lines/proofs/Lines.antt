@@ -24,8 +24,8 @@ use Rattle.line.specs.LineCuts.{countedReads, countedHalts, counted, countedOf}
 use Rattle.line.specs.declared.LineRead.{LineRead}
 use Rattle.line.specs.declared.LineRead.the-variants as line-variants
 use Rattle.line.specs.declared.LineRead.the-variants.{Reads}
-use Rattle.cut.specs.declared.Failure as cut-failure
-use Rattle.cut.specs.Cuts.{failureOf}
+use Rattle.literals.specs.declared.Failure as cut-failure
+use Rattle.literals.specs.Cuts.{failureOf}
 
 -- A line's answer.
 

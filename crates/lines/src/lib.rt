@@ -2,19 +2,17 @@
 ghost use mathlib.Core.Path.{_≡_};
 ghost use mathlib.Core.Bool.{true};
 ghost use mathlib.Core.List.{[], _∷_};
-ghost use Prim.Native.Nat.{suc, _+_, _*_, _≤_, _<_};
+ghost use Prim.Native.Nat.{suc, _+_, _-_, _*_, _≤_, _<_};
 ghost use lib.Dec.{ltb};
 ghost use lib.ListN.{length, drop};
 ghost use Rattle.rules.specs.Lists.{if_then_else_, run};
 ghost use Rattle.rules.specs.Failure.{detailOf, failureRecord};
-ghost use Rattle.rules.specs.Line.{readLine};
+ghost use Rattle.rules.specs.Line.{dedents, readLine};
 ghost use Rattle.rules.specs.Reading.{notLF, lineAt, sizeAt};
 ghost use Rattle.rules.specs.Limits.{maxLevels};
 ghost use Rattle.rules.specs.Records.{lineSize, tokenSize, lineRecord, tokenWords};
-ghost use Rattle.spelling.specs.Bytes.{classTable, reachTable};
-ghost use Rattle.spelling.specs.Rows.{keywordTable};
-ghost use Rattle.spelling.specs.Signs.{signTable, signIndexTable};
-ghost use Rattle.cut.specs.Cuts.{failureOf};
+ghost use Rattle.tables.specs.All.{allTables};
+ghost use Rattle.literals.specs.Cuts.{failureOf};
 ghost use Rattle.records.specs.States.{stateOf};
 ghost use Rattle.line.specs.LineCuts.{tokensIn, RoomIn};
 ghost use Rattle.laws.specs.Puts.{putIf};
@@ -27,7 +25,7 @@ pub fn line_end(text: &[u8], at: usize) -> usize
     requires { ⌜ at ≤ length (now text) ⌝ }
     ensures { λ r. ⌜ r ≡ at + run notLF (drop at (now (text .entry))) ⌝ }
 {
-    cut::find_byte(text, at, 10)
+    search::find_byte(text, at, 10)
 }
 
 // The codes of the details, by number; number 0 is as 1.
@@ -44,18 +42,18 @@ fn code_of(detail: u32) -> u32
     codes[detail as usize]
 }
 
-// The record of a failure in the line that starts at `start` and has this number.
-pub fn failure_record(f: cut::Failure, start: usize, number: usize) -> refusals::FailureRecord
-    requires { ⌜ (start + (f .at + f .size) ≤ 1_048_576) × (number ≤ 1_048_577) ⌝ }
-    ensures { λ r. ⌜ r ≡ recordIn (failureRecord start number (failureOf f)) ⌝ }
+// The record of a failure in the line at this place.
+pub fn failure_record(f: literals::Failure, place: records::Place) -> refusals::FailureRecord
+    requires { ⌜ (place .start + (f .at + f .size) ≤ 1_048_576) × (place .line ≤ 1_048_576) ⌝ }
+    ensures { λ r. ⌜ r ≡ recordIn (failureRecord (place .start) (place .line + 1) (failureOf f)) ⌝ }
 {
-    let position = (start + f.at) as u32;
+    let position = place.start + f.at as u32;
     refusals::FailureRecord {
         code: code_of(f.detail),
         detail: f.detail,
         found: f.found,
         position: position,
-        line: number as u32,
+        line: place.line as u32 + 1,
         column: f.at as u32 + 1,
         from: position,
         to: position + f.size as u32,
@@ -78,62 +76,54 @@ pub enum Step {
     Refused(refusals::Unread),
 }
 
-// The line at `at` of a text that begins at byte `base` of the whole: where the pass writes, its record m and its tokens from k on.
+// The line at `at` of a text, with its place in the whole: where the pass writes, its record and its tokens.
 pub fn next_line(
-    class: &[u8; 256],
-    reach: &[u8; 1024],
-    index: &[u8; 256],
-    signs: &[u8; 360],
-    keywords: &[u8; 539],
+    tables: &[u8; tables::SIZE],
     text: &[u8],
     at: usize,
-    base: usize,
     lines: &mut [u32],
     tokens: &mut [u32],
-    write: bool,
-    m: usize,
-    k: usize,
+    place: records::Place,
     limits: refusals::LineLimits,
     widths: &mut [u32],
     s: records::State,
 ) -> Step
-    requires { ⌜ now class ≡ classTable ⌝ }
-    requires { ⌜ now reach ≡ reachTable ⌝ }
-    requires { ⌜ now index ≡ signIndexTable ⌝ }
-    requires { ⌜ now signs ≡ signTable ⌝ }
-    requires { ⌜ now keywords ≡ keywordTable ⌝ }
-    requires { ⌜ (at < length (now text)) × ((base + length (now text) ≤ 1_048_576) × ((m ≤ 1_048_576) × (k ≤ 3_000_000))) ⌝ }
+    requires { ⌜ now tables ≡ allTables ⌝ }
+    requires { ⌜ (at < length (now text)) × ((place .start + (length (now text) - at) ≤ 1_048_576) × ((place .line ≤ 1_048_576) × (place .first ≤ 3_000_000))) ⌝ }
     requires { ⌜ (s .depth ≤ 4_194_304) × ((s .levels ≤ maxLevels) × (length (now widths) ≡ maxLevels) × (limits .levels ≤ maxLevels)) ⌝ }
-    requires { ⌜ (write ≡ true → (lineSize * m + lineSize ≤ length (now lines)) × RoomIn (readLine (lineLimitsOf limits) (stateOf s (now widths)) (lineAt (now text) at)) k (length (now tokens))) ⌝ }
-    ensures { λ r. ⌜ StepIs (now (widths .exit)) (base + at) (m + 1) (at + sizeAt (now (text .entry)) at) (readLine (lineLimitsOf limits) (stateOf s (now (widths .entry))) (lineAt (now (text .entry)) at)) r ⌝ }
-    ensures { λ _. ⌜ now (lines .exit) ≡ putIf write (now (lines .entry)) (lineSize * m) (lineRecord (base + at) k (stateOf s (now (widths .entry)))) ⌝ }
-    ensures { λ _. ⌜ now (tokens .exit) ≡ putIf write (now (tokens .entry)) (tokenSize * k) (tokenWords (base + at) (m + 1) (tokensIn (readLine (lineLimitsOf limits) (stateOf s (now (widths .entry))) (lineAt (now (text .entry)) at)))) ⌝ }
+    requires { ⌜ (place .write ≡ true → (lineSize * place .line + lineSize ≤ length (now lines)) × RoomIn (readLine (lineLimitsOf limits) (stateOf s (now widths)) (lineAt (now text) at)) (place .first) (length (now tokens))) ⌝ }
+    ensures { λ r. ⌜ StepIs (now (widths .exit)) (place .start) (place .line + 1) (at + sizeAt (now (text .entry)) at) (readLine (lineLimitsOf limits) (stateOf s (now (widths .entry))) (lineAt (now (text .entry)) at)) r ⌝ }
+    ensures { λ _. ⌜ now (lines .exit) ≡ putIf (place .write) (now (lines .entry)) (lineSize * place .line) (lineRecord (place .start) (place .first) (stateOf s (now (widths .entry)))) ⌝ }
+    ensures { λ _. ⌜ now (tokens .exit) ≡ putIf (place .write) (now (tokens .entry)) (tokenSize * place .first) (tokenWords (place .start) (place .line + 1) (tokensIn (readLine (lineLimitsOf limits) (stateOf s (now (widths .entry))) (lineAt (now (text .entry)) at)))) ⌝ }
 {
-    let position = base + at;
-    records::put_line(lines, write, m, position as u32, k as u32, s, widths);
+    records::put_line(lines, place, s, widths);
     let end = line_end(text, at);
-    match line::read_line(
-        class,
-        reach,
-        index,
-        signs,
-        keywords,
-        &text[at..end],
-        tokens,
-        write,
-        k,
-        position as u32,
-        m as u32 + 1,
-        limits,
-        widths,
-        s,
-    ) {
+    match line::read_line(tables, &text[at..end], tokens, place, limits, widths, s) {
         line::LineRead::Reads(n, next) => Step::Reads(past_lf(text, end), n, next),
-        line::LineRead::Fails(f) => {
-            Step::Refused(refusals::Unread::Fails(failure_record(f, position, m + 1)))
-        }
+        line::LineRead::Fails(f) => Step::Refused(refusals::Unread::Fails(failure_record(
+            f,
+            place,
+        ))),
         line::LineRead::OverLimit(refusal) => {
-            Step::Refused(refusals::Unread::AtLine(refusal, m + 1))
+            Step::Refused(refusals::Unread::AtLine(refusal, place.line + 1))
         }
     }
+}
+
+// The end of a text at its place: where the pass writes, its record and its Dedents.
+pub fn put_end(
+    lines: &mut [u32],
+    tokens: &mut [u32],
+    place: records::Place,
+    s: records::State,
+    widths: &[u32],
+)
+    requires { ⌜ (length (now widths) ≡ maxLevels) × (s .levels ≤ maxLevels) ⌝ }
+    requires { ⌜ (place .start ≤ 1_048_576) × ((place .line ≤ 4_194_304) × (place .first ≤ 4_194_304)) ⌝ }
+    requires { ⌜ (place .write ≡ true → (lineSize * place .line + lineSize ≤ length (now lines)) × (tokenSize * (place .first + s .levels) ≤ length (now tokens))) ⌝ }
+    ensures { λ _. ⌜ now (lines .exit) ≡ putIf (place .write) (now (lines .entry)) (lineSize * place .line) (lineRecord (place .start) (place .first) (stateOf s (now (widths .entry)))) ⌝ }
+    ensures { λ _. ⌜ now (tokens .exit) ≡ putIf (place .write) (now (tokens .entry)) (tokenSize * place .first) (tokenWords (place .start) (place .line + 1) (dedents (s .levels))) ⌝ }
+{
+    records::put_line(lines, place, s, widths);
+    cursor::put_dedents(tokens, place, s.levels);
 }

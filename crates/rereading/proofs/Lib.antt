@@ -2,3 +2,4 @@ pub mod Words
 pub mod OldLines
 pub mod Rereads
 pub mod Rewrites
+pub mod Ends

@@ -21,7 +21,7 @@ use Rattle.records.specs.declared.State.{State}
 use Rattle.records.specs.States.{stateOf}
 use Rattle.line.specs.LineCuts.{RoomIn, tokensIn}
 use Rattle.lines.proofs.Lines.{PassTo}
-use Rattle.rereading.specs.Rewrites.{RoomFrom, FewFrom, MayPut, Reaches}
+use Rattle.rereading.specs.Rewrites.{RoomFrom, FewFrom, MayWrite, MayPut, Reaches}
 
 -- The records of one line more, which may be the end.
 
@@ -132,7 +132,7 @@ module _ {lim : LineLimits} {t : List ℕ} {z₀ : rules-line.State} {es : List 
   pub may-next : {write : Bool} {end kept i first lines tokens : ℕ} → MayPut write (readFrom lim z₀ (linesOf t)) end kept i first lines tokens → k ≤ 3_000_000
       → (first + k ≤ 3_000_000) × (write ≡ true → (lineSize * (i + c) + lineSize ≤ lines) × RoomIn (readLine lim z (lineAt t q)) (first + k) tokens)
   may-next {i = i} {first} {lines} {tokens} r few =
-      (⊎-elim (λ (e : first ≡ 0). omega (arith, e)) (λ (x : FewFrom (readFrom lim z₀ (linesOf t)) first). next-few first _ refl x) (r .few), λ e. next-room i first lines tokens _ refl (r .room e))
+      (⊎-elim (λ (e : first ≡ 0). omega (arith, e)) (λ (x : FewFrom (readFrom lim z₀ (linesOf t)) first). next-few first _ refl x) (r .may .few), λ e. next-room i first lines tokens _ refl (r .may .room e))
 
   -- the next line is written
   pub put-next : {write : Bool} {base i first : ℕ} {lines₀ tokens₀ lines tokens lines′ tokens′ : List ℕ} → PutTo write base i first lines₀ tokens₀ es lines tokens
@@ -150,7 +150,7 @@ module _ {lim : LineLimits} {t : List ℕ} {z₀ : rules-line.State} {es : List 
       }
 
 -- A pass that writes meets no halt.
-pub may-read : {write : Bool} {x : Reading} {end kept i first lines tokens : ℕ} → MayPut write x end kept i first lines tokens → {es : List Entry} {h : Halt} → x ≡ halts es h → write ≡ true → ⊥
+pub may-read : {write : Bool} {x : Reading} {i first lines tokens : ℕ} → MayWrite write x i first lines tokens → {es : List Entry} {h : Halt} → x ≡ halts es h → write ≡ true → ⊥
 may-read {i = i} {first} {lines} {tokens} r e w = subst (λ (y : Reading). RoomFrom y i first lines tokens) e (r .room w)
 
 pub reached : {x : Reading} {es : List Entry} {z : rules-line.State} → x ≡ reads es z → Reaches x z

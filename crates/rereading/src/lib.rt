@@ -9,16 +9,23 @@ ghost use Rattle.rules.specs.Line.{readLine};
 ghost use Rattle.rules.specs.Reading.{linesOf, readFrom, linesRead};
 ghost use Rattle.rules.specs.Limits.{maxLevels};
 ghost use Rattle.rules.specs.Records.{lineSize, tokenSize, lineRecord, lineRecords, tokenWords, tokenRecords};
-ghost use Rattle.spelling.specs.Bytes.{classTable, reachTable};
-ghost use Rattle.spelling.specs.Rows.{keywordTable};
-ghost use Rattle.spelling.specs.Signs.{signTable, signIndexTable};
+ghost use Rattle.tables.specs.All.{allTables};
 ghost use Rattle.records.specs.States.{stateOf};
 ghost use Rattle.line.specs.LineCuts.{tokensIn, RoomIn};
 ghost use Rattle.refusals.specs.Limits.{lineLimitsOf};
 ghost use Rattle.laws.specs.Puts.{putIf};
 ghost use Rattle.rereading.specs.Words.{oldByte, FirstFrom, stopsAt};
 ghost use Rattle.rereading.specs.Rereads.{RereadIs};
-ghost use Rattle.rereading.specs.Rewrites.{RoomFrom, FewFrom, MayPut, Reaches, EndsIn};
+ghost use Rattle.rereading.specs.Rewrites.{RoomFrom, FewFrom, MayPut, MayWrite, Reaches, EndsIn, EndIs};
+
+// The stop rule of an edit, by the old records: how many lines they have, the first one to compare with, where the replaced bytes end, and
+// where the kept tail begins in the edited text.
+pub struct StopRule {
+    pub count: usize,
+    pub from: usize,
+    pub end: usize,
+    pub kept: usize,
+}
 
 // From record j on, the first of m that starts at the byte `at` or beyond.
 fn first_from(lines: &[u32], m: usize, j: usize, at: usize) -> usize
@@ -43,41 +50,40 @@ fn old_byte(b: usize, kept: usize, p: usize) -> usize
     b + (p - kept)
 }
 
-// The old line to compare with at byte `at` of the edited text: record j up to a + |w|, beyond it the first from j on that starts at
+// The old line to compare with at byte `at` of the edited text: record j up to the kept tail, beyond it the first from j on that starts at
 // the same byte of the kept tail or further on.
-fn old_line(lines: &[u32], m: usize, j: usize, b: usize, kept: usize, at: usize) -> usize
-    requires { ⌜ (j ≤ m) × ((m ≤ 4_294_967_295) × (lineSize * (m + 1) ≤ length (now lines))) ⌝ }
-    requires { ⌜ (b ≤ 4_294_967_295) × (at ≤ 1_048_576) ⌝ }
-    ensures { λ r. ⌜ (at ≤ kept → r ≡ j) × (kept < at → FirstFrom (now (lines .entry)) m j (oldByte b kept at) r) ⌝ }
-    ensures { λ r. ⌜ r ≤ m ⌝ }
+fn old_line(old: &[u32], stop: StopRule, j: usize, at: usize) -> usize
+    requires { ⌜ (j ≤ stop .count) × ((stop .count ≤ 4_294_967_295) × (lineSize * (stop .count + 1) ≤ length (now old))) ⌝ }
+    requires { ⌜ (stop .end ≤ 4_294_967_295) × (at ≤ 1_048_576) ⌝ }
+    ensures { λ r. ⌜ (at ≤ stop .kept → r ≡ j) × (stop .kept < at → FirstFrom (now (old .entry)) (stop .count) j (oldByte (stop .end) (stop .kept) at) r) ⌝ }
+    ensures { λ r. ⌜ r ≤ stop .count ⌝ }
 {
-    if at <= kept {
+    if at <= stop.kept {
         return j;
     }
-    first_from(lines, m, j, old_byte(b, kept, at))
+    first_from(old, stop.count, j, old_byte(stop.end, stop.kept, at))
 }
 
 // Re-reading stops at byte p in this state, where record j is the one to compare with.
 fn stops_at(
-    lines: &[u32],
+    old: &[u32],
+    stop: StopRule,
     j: usize,
-    b: usize,
-    kept: usize,
     p: usize,
     s: records::State,
     widths: &[u32],
 ) -> bool
-    requires { ⌜ (length (now widths) ≡ maxLevels) × ((s .levels ≤ maxLevels) × ((j ≤ 4_294_967_295) × (lineSize * (j + 1) ≤ length (now lines)))) ⌝ }
-    requires { ⌜ (b ≤ 4_294_967_295) × (p ≤ 1_048_576) ⌝ }
-    ensures { λ r. ⌜ r ≡ stopsAt (now (lines .entry)) j b kept p (stateOf s (now (widths .entry))) ⌝ }
+    requires { ⌜ (length (now widths) ≡ maxLevels) × ((s .levels ≤ maxLevels) × ((j ≤ 4_294_967_295) × (lineSize * (j + 1) ≤ length (now old)))) ⌝ }
+    requires { ⌜ (stop .end ≤ 4_294_967_295) × (p ≤ 1_048_576) ⌝ }
+    ensures { λ r. ⌜ r ≡ stopsAt (now (old .entry)) j (stop .end) (stop .kept) p (stateOf s (now (widths .entry))) ⌝ }
 {
-    if p <= kept {
+    if p <= stop.kept {
         return false;
     }
-    if lines[records::LINE * j] as usize != old_byte(b, kept, p) {
+    if old[records::LINE * j] as usize != old_byte(stop.end, stop.kept, p) {
         return false;
     }
-    records::same_state(lines, j, s, widths)
+    records::same_state(old, j, s, widths)
 }
 
 // What reading on gives: a stop after so many lines, tokens and bytes, at an old line; the end after so many lines and tokens, in a
@@ -88,73 +94,48 @@ pub enum Reread {
     Refused(refusals::Unread),
 }
 
-// The lines of a text that begins at byte `base` of the whole, with line i and token `first`, read from a state on, up to the stop rule
-// against the old records from `from` on; where the pass writes, their records. A text that is read to its end keeps nothing: `kept` is
-// then the end of it.
+// The lines of a text whose first line has this place in the whole, read from a state on, up to the stop rule against old line records; where
+// the pass writes, their records. A text that is read to its end keeps nothing: the kept tail then begins at the end of it.
 pub fn read_on(
-    class: &[u8; 256],
-    reach: &[u8; 1024],
-    index: &[u8; 256],
-    signs: &[u8; 360],
-    keywords: &[u8; 539],
+    tables: &[u8; tables::SIZE],
     text: &[u8],
-    base: usize,
     old: &[u32],
-    m: usize,
-    from: usize,
-    b: usize,
-    kept: usize,
+    stop: StopRule,
     lines: &mut [u32],
     tokens: &mut [u32],
-    write: bool,
-    i: usize,
-    first: usize,
+    place: records::Place,
     limits: refusals::LineLimits,
     widths: &mut [u32],
     start: records::State,
 ) -> Reread
-    requires { ⌜ now class ≡ classTable ⌝ }
-    requires { ⌜ now reach ≡ reachTable ⌝ }
-    requires { ⌜ now index ≡ signIndexTable ⌝ }
-    requires { ⌜ now signs ≡ signTable ⌝ }
-    requires { ⌜ now keywords ≡ keywordTable ⌝ }
-    requires { ⌜ (base + length (now text) ≤ 1_048_576) × ((i ≤ base) × ((from ≤ m) × (b ≤ 4_294_967_295))) ⌝ }
-    requires { ⌜ (m ≤ 4_294_967_295) × (lineSize * (m + 1) ≤ length (now old)) ⌝ }
-    requires { ⌜ (start .depth ≤ base) × ((start .levels ≤ maxLevels) × (length (now widths) ≡ maxLevels) × (limits .levels ≤ maxLevels)) ⌝ }
-    requires { ⌜ MayPut write (readFrom (lineLimitsOf limits) (stateOf start (now widths)) (linesOf (now text))) (base + length (now text)) kept i first (length (now lines)) (length (now tokens)) ⌝ }
-    ensures { λ r. ⌜ RereadIs (lineLimitsOf limits) (now (text .entry)) (now (old .entry)) base i m from b kept (stateOf start (now (widths .entry))) r ⌝ }
+    requires { ⌜ now tables ≡ allTables ⌝ }
+    requires { ⌜ (place .start + length (now text) ≤ 1_048_576) × ((place .line ≤ place .start) × ((stop .from ≤ stop .count) × (stop .end ≤ 4_294_967_295))) ⌝ }
+    requires { ⌜ (stop .count ≤ 4_294_967_295) × (lineSize * (stop .count + 1) ≤ length (now old)) ⌝ }
+    requires { ⌜ (start .depth ≤ place .start) × ((start .levels ≤ maxLevels) × (length (now widths) ≡ maxLevels) × (limits .levels ≤ maxLevels)) ⌝ }
+    requires { ⌜ MayPut (place .write) (readFrom (lineLimitsOf limits) (stateOf start (now widths)) (linesOf (now text))) (place .start + length (now text)) (stop .kept) (place .line) (place .first) (length (now lines)) (length (now tokens)) ⌝ }
+    ensures { λ r. ⌜ RereadIs (lineLimitsOf limits) (now (text .entry)) (now (old .entry)) (place .start) (place .line) (stop .count) (stop .from) (stop .end) (stop .kept) (stateOf start (now (widths .entry))) r ⌝ }
     ensures { λ r. ⌜ EndsIn (readFrom (lineLimitsOf limits) (stateOf start (now (widths .entry))) (linesOf (now (text .entry)))) (now (widths .exit)) r ⌝ }
-    ensures { λ _. ⌜ now (lines .exit) ≡ putIf write (now (lines .entry)) (lineSize * i) (lineRecords base first (linesRead (readFrom (lineLimitsOf limits) (stateOf start (now (widths .entry))) (linesOf (now (text .entry)))))) ⌝ }
-    ensures { λ _. ⌜ now (tokens .exit) ≡ putIf write (now (tokens .entry)) (tokenSize * first) (tokenRecords base (i + 1) (linesRead (readFrom (lineLimitsOf limits) (stateOf start (now (widths .entry))) (linesOf (now (text .entry)))))) ⌝ }
+    ensures { λ _. ⌜ now (lines .exit) ≡ putIf (place .write) (now (lines .entry)) (lineSize * place .line) (lineRecords (place .start) (place .first) (linesRead (readFrom (lineLimitsOf limits) (stateOf start (now (widths .entry))) (linesOf (now (text .entry)))))) ⌝ }
+    ensures { λ _. ⌜ now (tokens .exit) ≡ putIf (place .write) (now (tokens .entry)) (tokenSize * place .first) (tokenRecords (place .start) (place .line + 1) (linesRead (readFrom (lineLimitsOf limits) (stateOf start (now (widths .entry))) (linesOf (now (text .entry)))))) ⌝ }
 {
     let mut q: usize = 0;
     let mut c: usize = 0;
     let mut k: usize = 0;
-    let mut j = from;
+    let mut j = stop.from;
     let mut s = start;
     while q < text.len() {
-        j = old_line(old, m, j, b, kept, base + q);
-        if stops_at(old, j, b, kept, base + q, s, widths) {
+        let here = records::Place {
+            write: place.write,
+            line: place.line + c,
+            first: place.first + k,
+            start: place.start + q as u32,
+        };
+        let at = here.start as usize;
+        j = old_line(old, stop, j, at);
+        if stops_at(old, stop, j, at, s, widths) {
             return Reread::Stops(c, k, q, j);
         }
-        match lines::next_line(
-            class,
-            reach,
-            index,
-            signs,
-            keywords,
-            text,
-            q,
-            base,
-            lines,
-            tokens,
-            write,
-            i + c,
-            first + k,
-            limits,
-            widths,
-            s,
-        ) {
+        match lines::next_line(tables, text, q, lines, tokens, here, limits, widths, s) {
             lines::Step::Reads(next, n, z) => {
                 q = next;
                 c += 1;
@@ -169,61 +150,79 @@ pub fn read_on(
     Reread::Ends(c, k, s)
 }
 
-// The lines of a text that begins at byte `base` of the whole, written: their records from record i on, their tokens from token `first`
-// on; the state after them.
-pub fn rewrite_lines(
-    class: &[u8; 256],
-    reach: &[u8; 1024],
-    index: &[u8; 256],
-    signs: &[u8; 360],
-    keywords: &[u8; 539],
+// What reading to the end gives: so many lines and tokens, and the state after them; or why a line does not read.
+pub enum ReadToEnd {
+    Ends(usize, usize, records::State),
+    Refused(refusals::Unread),
+}
+
+// All lines of a text whose first line has this place in the whole: no old records are compared with, so there is no stop.
+pub fn read_to_end(
+    tables: &[u8; tables::SIZE],
     text: &[u8],
-    base: usize,
     lines: &mut [u32],
     tokens: &mut [u32],
-    i: usize,
-    first: usize,
+    place: records::Place,
     limits: refusals::LineLimits,
     widths: &mut [u32],
     start: records::State,
-) -> records::State
-    requires { ⌜ now class ≡ classTable ⌝ }
-    requires { ⌜ now reach ≡ reachTable ⌝ }
-    requires { ⌜ now index ≡ signIndexTable ⌝ }
-    requires { ⌜ now signs ≡ signTable ⌝ }
-    requires { ⌜ now keywords ≡ keywordTable ⌝ }
-    requires { ⌜ (base + length (now text) ≤ 1_048_576) × (i ≤ base) ⌝ }
-    requires { ⌜ (start .depth ≤ base) × ((start .levels ≤ maxLevels) × (length (now widths) ≡ maxLevels) × (limits .levels ≤ maxLevels)) ⌝ }
-    requires { ⌜ FewFrom (readFrom (lineLimitsOf limits) (stateOf start (now widths)) (linesOf (now text))) first ⌝ }
-    requires { ⌜ RoomFrom (readFrom (lineLimitsOf limits) (stateOf start (now widths)) (linesOf (now text))) i first (length (now lines)) (length (now tokens)) ⌝ }
-    ensures { λ r. ⌜ Reaches (readFrom (lineLimitsOf limits) (stateOf start (now (widths .entry))) (linesOf (now (text .entry)))) (stateOf r (now (widths .exit))) × (r .levels ≤ maxLevels) ⌝ }
-    ensures { λ _. ⌜ now (lines .exit) ≡ sets (now (lines .entry)) (lineSize * i) (lineRecords base first (linesRead (readFrom (lineLimitsOf limits) (stateOf start (now (widths .entry))) (linesOf (now (text .entry)))))) ⌝ }
-    ensures { λ _. ⌜ now (tokens .exit) ≡ sets (now (tokens .entry)) (tokenSize * first) (tokenRecords base (i + 1) (linesRead (readFrom (lineLimitsOf limits) (stateOf start (now (widths .entry))) (linesOf (now (text .entry)))))) ⌝ }
+) -> ReadToEnd
+    requires { ⌜ now tables ≡ allTables ⌝ }
+    requires { ⌜ (place .start + length (now text) ≤ 1_048_576) × (place .line ≤ place .start) ⌝ }
+    requires { ⌜ (start .depth ≤ place .start) × ((start .levels ≤ maxLevels) × (length (now widths) ≡ maxLevels) × (limits .levels ≤ maxLevels)) ⌝ }
+    requires { ⌜ MayWrite (place .write) (readFrom (lineLimitsOf limits) (stateOf start (now widths)) (linesOf (now text))) (place .line) (place .first) (length (now lines)) (length (now tokens)) ⌝ }
+    ensures { λ r. ⌜ EndIs (readFrom (lineLimitsOf limits) (stateOf start (now (widths .entry))) (linesOf (now (text .entry)))) (place .start) (place .line) (now (widths .exit)) r ⌝ }
+    ensures { λ _. ⌜ now (lines .exit) ≡ putIf (place .write) (now (lines .entry)) (lineSize * place .line) (lineRecords (place .start) (place .first) (linesRead (readFrom (lineLimitsOf limits) (stateOf start (now (widths .entry))) (linesOf (now (text .entry)))))) ⌝ }
+    ensures { λ _. ⌜ now (tokens .exit) ≡ putIf (place .write) (now (tokens .entry)) (tokenSize * place .first) (tokenRecords (place .start) (place .line + 1) (linesRead (readFrom (lineLimitsOf limits) (stateOf start (now (widths .entry))) (linesOf (now (text .entry)))))) ⌝ }
 {
     let none: [u32; records::LINE] = [0; records::LINE];
+    let stop = StopRule {
+        count: 0,
+        from: 0,
+        end: 0,
+        kept: place.start as usize + text.len(),
+    };
     match read_on(
-        class,
-        reach,
-        index,
-        signs,
-        keywords,
+        tables,
         text,
-        base,
         &none,
-        0,
-        0,
-        0,
-        base + text.len(),
+        stop,
         lines,
         tokens,
-        true,
-        i,
-        first,
+        place,
         limits,
         widths,
         start,
     ) {
-        Reread::Ends(_, _, s) => s,
-        _ => start,
+        Reread::Ends(c, k, s) => ReadToEnd::Ends(c, k, s),
+        Reread::Refused(u) => ReadToEnd::Refused(u),
+        Reread::Stops(c, k, _, _) => ReadToEnd::Ends(c, k, start),
+    }
+}
+
+// The lines of a text whose first line has this place in the whole, written; the state after them.
+pub fn rewrite_lines(
+    tables: &[u8; tables::SIZE],
+    text: &[u8],
+    lines: &mut [u32],
+    tokens: &mut [u32],
+    place: records::Place,
+    limits: refusals::LineLimits,
+    widths: &mut [u32],
+    start: records::State,
+) -> records::State
+    requires { ⌜ now tables ≡ allTables ⌝ }
+    requires { ⌜ (place .start + length (now text) ≤ 1_048_576) × (place .line ≤ place .start) ⌝ }
+    requires { ⌜ (start .depth ≤ place .start) × ((start .levels ≤ maxLevels) × (length (now widths) ≡ maxLevels) × (limits .levels ≤ maxLevels)) ⌝ }
+    requires { ⌜ place .write ≡ true ⌝ }
+    requires { ⌜ FewFrom (readFrom (lineLimitsOf limits) (stateOf start (now widths)) (linesOf (now text))) (place .first) ⌝ }
+    requires { ⌜ RoomFrom (readFrom (lineLimitsOf limits) (stateOf start (now widths)) (linesOf (now text))) (place .line) (place .first) (length (now lines)) (length (now tokens)) ⌝ }
+    ensures { λ r. ⌜ Reaches (readFrom (lineLimitsOf limits) (stateOf start (now (widths .entry))) (linesOf (now (text .entry)))) (stateOf r (now (widths .exit))) × (r .levels ≤ maxLevels) ⌝ }
+    ensures { λ _. ⌜ now (lines .exit) ≡ sets (now (lines .entry)) (lineSize * place .line) (lineRecords (place .start) (place .first) (linesRead (readFrom (lineLimitsOf limits) (stateOf start (now (widths .entry))) (linesOf (now (text .entry)))))) ⌝ }
+    ensures { λ _. ⌜ now (tokens .exit) ≡ sets (now (tokens .entry)) (tokenSize * place .first) (tokenRecords (place .start) (place .line + 1) (linesRead (readFrom (lineLimitsOf limits) (stateOf start (now (widths .entry))) (linesOf (now (text .entry)))))) ⌝ }
+{
+    match read_to_end(tables, text, lines, tokens, place, limits, widths, start) {
+        ReadToEnd::Ends(_, _, s) => s,
+        ReadToEnd::Refused(u) => start,
     }
 }

@@ -16,8 +16,9 @@ use Rattle.rules.proofs.FailureLaws.{failure-inside}
 use Rattle.laws.specs.Puts.{putIf}
 use Rattle.refusals.specs.Limits.{lineLimitsOf}
 use Rattle.refusals.specs.declared.Unread.the-variants.{Fails}
-use Rattle.cut.specs.Cuts.{failureOf}
+use Rattle.literals.specs.Cuts.{failureOf}
 use Rattle.records.specs.States.{stateOf}
+use Rattle.records.specs.declared.Place.{Place}
 use Rattle.line.specs.LineCuts.{tokensIn, RoomIn, LevelsWithin}
 use Rattle.lines.proofs.Lines.{line-read, line-fails, line-over, next-start, slice-is}
 use borrow.Author.Needs.{needs}
@@ -41,14 +42,17 @@ module _ (s : tie.Start) where
   abbrev line-here : List ℕ
   line-here = lineAt text at
 
+  abbrev place : Place
+  place = s .args .place
+
   some : at < length text
-  some = s .pre .1 .1 .1 .1 .1 .0 .0
+  some = s .pre .1 .0 .0
 
-  few-bytes : s .args .base + length text ≤ 1_048_576
-  few-bytes = s .pre .1 .1 .1 .1 .1 .0 .1 .0
+  few-bytes : place .start + (length text - at) ≤ 1_048_576
+  few-bytes = s .pre .1 .0 .1 .0
 
-  few-lines : s .args .m ≤ 1_048_576
-  few-lines = s .pre .1 .1 .1 .1 .1 .0 .1 .1 .0
+  few-lines : place .line ≤ 1_048_576
+  few-lines = s .pre .1 .0 .1 .1 .0
 
 -- The line ends where `line_end` says.
 module _ (e : tie.After-line-end) where
@@ -80,12 +84,12 @@ module _ (r : tie.After-read-line) where
   reply-is : readLine (lim here) (z here) (line-here here) ≡ reply
   reply-is = ap (readLine (lim here) (z here)) (sym (line-is ended))
 
-  written : let a = here .args in
-      (ended .before .before .before .put-line .last .0 ≡ putIf (a .write) (a .lines .now) (lineSize * a .m) (lineRecord (a .base + a .at) (a .k) (z here)))
-      × (r .read-line .last .1 .1 .1 .1 .1 .1 .0 ≡ putIf (a .write) (a .tokens .now) (tokenSize * a .k) (tokenWords (a .base + a .at) (a .m + 1) (tokensIn (readLine (lim here) (z here) (line-here here)))))
+  written : let a = here .args in let p = place here in
+      (ended .before .before .before .put-line .last .0 ≡ putIf (p .write) (a .lines .now) (lineSize * p .line) (lineRecord (p .start) (p .first) (z here)))
+      × (r .read-line .last .1 .1 .0 ≡ putIf (p .write) (a .tokens .now) (tokenSize * p .first) (tokenWords (p .start) (p .line + 1) (tokensIn (readLine (lim here) (z here) (line-here here)))))
   written =
-      let a = here .args in
-      (ended .before .before .before .put-line .ensures, r .read-line .ensures .1 .1 .1 ∙ ap (λ (y : LineReply). putIf (a .write) (a .tokens .now) (tokenSize * a .k) (tokenWords (a .base + a .at) (a .m + 1) (tokensIn y))) (sym reply-is))
+      let p = place here in
+      (ended .before .before .before .put-line .ensures, r .read-line .ensures .1 .1 .1 ∙ ap (λ (y : LineReply). putIf (p .write) (here .args .tokens .now) (tokenSize * p .first) (tokenWords (p .start) (p .line + 1) (tokensIn y))) (sym reply-is))
 
 abbrev reads-at : tie.After-past-lf → tie.After-read-line
 reads-at c = c .before .before .before .before .before .before .before .before
@@ -101,19 +105,10 @@ module _ (c : tie.After-known-told2) where
 abbrev over-at : tie.After-known-told3 → tie.After-read-line
 over-at c = c .before .before .before .before .before .before .before
 
-add-position : tie.Need-add-position
-add-position c = search needs
-
-cast-put-line : tie.Need-cast-put-line
-cast-put-line c = search needs
-
-cast-put-line-2 : tie.Need-cast-put-line-2
-cast-put-line-2 c = search needs
-
 put-line-requires : tie.Need-put-line-requires
 put-line-requires c κs =
-    let p = c .before .before .before .before .before .before .pre .1 .1 .1 .1 .1 .1 in
-    ((p .0 .1 .1, p .0 .1 .0), λ w. p .1 w .0)
+    let p = c .before .before .before .before .before .before .pre .1 in
+    ((p .1 .0 .1 .1, (p .1 .0 .1 .0, omega (arith, p .0 .1 .1 .1))), λ w. p .1 .1 w .0)
 
 line-end-requires : tie.Need-line-end-requires
 line-end-requires c κs = search needs
@@ -129,37 +124,16 @@ part-read-line-end c =
     let s = start c in
     omega (arith, c .line-end .ensures, some s, run-le notLF (drop (at s) (text s)), length-drop (at s) (text s))
 
-cast-read-line : tie.Need-cast-read-line
-cast-read-line c = search needs
-
-cast-read-line-2 : tie.Need-cast-read-line-2
-cast-read-line-2 c = search needs
-
-add-read-line : tie.Need-add-read-line
-add-read-line c = search needs
-
 read-line-requires : tie.Need-read-line-requires
 read-line-requires c κs =
     let e = c .before .before .before in
     let s = start e in
-    let p = s .pre in
-    let q = p .1 .1 .1 .1 .1 .1 in (
-      p .0,
+    let p = s .pre .1 in
+    let q = p .1 in (
+      s .pre .0,
       (
-        p .1 .0,
-        (
-          p .1 .1 .0,
-          (
-            p .1 .1 .1 .0,
-            (
-              p .1 .1 .1 .1 .0,
-              (
-                (omega (arith, line-inside e, few-bytes s), (q .0 .0, p .1 .1 .1 .1 .1 .0 .1 .1 .1)),
-                ((q .0 .1 .1, q .0 .1 .0, q .0 .1 .2), λ w. subst (λ (l : List ℕ). RoomIn (readLine (lim s) (z s) l) (s .args .k) (length (s .args .tokens .now))) (sym (line-is e)) (q .1 w .1)),
-              ),
-            ),
-          ),
-        ),
+        (omega (arith, line-inside e, few-bytes s), (omega (arith, few-lines s), (p .0 .1 .1 .1, q .0 .0))),
+        ((q .0 .1 .1, q .0 .1 .0, q .0 .1 .2), λ w. subst (λ (l : List ℕ). RoomIn (readLine (lim s) (z s) l) (place s .first) (length (s .args .tokens .now))) (sym (line-is e)) (q .1 w .1)),
       ),
     )
 
@@ -172,9 +146,6 @@ past-lf-requires c κs = search needs
 enum-known-f : tie.Need-enum-known-f
 enum-known-f c = search needs
 
-add-failure-record : tie.Need-add-failure-record
-add-failure-record c = omega (arith, few-lines (here (fails-at c)))
-
 failure-record-requires : tie.Need-failure-record-requires
 failure-record-requires c κs =
     let e = ended (fails-at c) in
@@ -184,8 +155,8 @@ failure-record-requires c κs =
 enum-known-refusal : tie.Need-enum-known-refusal
 enum-known-refusal c = search needs
 
-add-t45 : tie.Need-add-t45
-add-t45 c = omega (arith, few-lines (here (over-at c)))
+add-t33 : tie.Need-add-t33
+add-t33 c = omega (arith, few-lines (here (over-at (c .before))))
 
 same-length : tie.Need-same-length
 same-length c = search needs
@@ -232,32 +203,25 @@ same-length-9 c = search needs
 returns-3 : tie.Need-returns-3
 unfolding haltRefusal
 returns-3 c =
-    let r = over-at c in
-    ((_, reply-is r ∙ line-over _ _ (reply r) (r .read-line .ensures .0) _ (c .before .refusal .given .1), refl), written r)
+    let r = over-at (c .before) in
+    ((_, reply-is r ∙ line-over _ _ (reply r) (r .read-line .ensures .0) _ (c .before .before .refusal .given .1), refl), written r)
 
 pub next-line-spec : {M : Type 1} → statement M
 next-line-spec =
     tie.close
     (tie.spec
-    add-position
-    cast-put-line
-    cast-put-line-2
     put-line-requires
     line-end-requires
     sub-read-line
     part-read-line-start
     part-read-line-end
-    cast-read-line
-    cast-read-line-2
-    add-read-line
     read-line-requires
     enum-known-n
     past-lf-requires
     enum-known-f
-    add-failure-record
     failure-record-requires
     enum-known-refusal
-    add-t45
+    add-t33
     same-length
     same-length-2
     same-length-3

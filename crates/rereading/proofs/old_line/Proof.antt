@@ -19,9 +19,9 @@ first-from-requires c κs = search needs
 
 returns-2 : tie.Need-returns-2
 returns-2 c =
-    let a = c .before .before .before .before .args in
+    let a = c .before .before .before .before .before .args in
     let r = c .first-from .ensures in
-    ((λ h. absurd (omega arith), λ h. subst (λ (x : ℕ). FirstFrom (a .lines .now) (a .m) (a .j) x (c .first-from .result)) (c .before .old-byte .ensures) r), r .high)
+    ((λ h. absurd (omega arith), λ h. subst (λ (x : ℕ). FirstFrom (a .old .now) (a .stop .count) (a .j) x (c .first-from .result)) (c .before .old-byte .ensures) r), r .high)
 
 pub old-line-spec : {M : Type 1} → statement M
 old-line-spec = tie.close (tie.spec returns old-byte-requires first-from-requires returns-2)

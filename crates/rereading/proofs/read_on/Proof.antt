@@ -27,11 +27,11 @@ use Rattle.rereading.proofs.read_on.Statement.{statement}
 use Rattle.rereading.proofs.read_on.Tie as tie
 
 abbrev Inv-loop : tie.InvT-loop
-Inv-loop class reach index signs keywords text base old m from b kept lines₀ tokens₀ write i first limits widths₀ q₀ c₀ k₀ j₀ s₀ lines tokens widths q c k j s =
-    (es : List Entry) × ComeTo (lineLimitsOf limits) text old base i m from b kept (stateOf s₀ widths₀) es widths q c k j s × PutTo write base i first lines₀ tokens₀ es lines tokens
+Inv-loop tables text old stop lines₀ tokens₀ place limits widths₀ q₀ c₀ k₀ j₀ s₀ lines tokens widths q c k j s =
+    (es : List Entry) × ComeTo (lineLimitsOf limits) text old (place .start) (place .line) (stop .count) (stop .from) (stop .end) (stop .kept) (stateOf s₀ widths₀) es widths q c k j s × PutTo (place .write) (place .start) (place .line) (place .first) lines₀ tokens₀ es lines tokens
 
 abbrev μ-loop : tie.MeasureT-loop
-μ-loop class reach index signs keywords text base old m from b kept lines₀ tokens₀ write i first limits widths₀ q₀ c₀ k₀ j₀ s₀ lines tokens widths q c k j s = length text - q
+μ-loop tables text old stop lines₀ tokens₀ place limits widths₀ q₀ c₀ k₀ j₀ s₀ lines tokens widths q c k j s = length text - q
 
 -- The loop, with what the function was called with.
 module _ (l : tie.At-loop Inv-loop μ-loop) where
@@ -44,28 +44,28 @@ module _ (l : tie.At-loop Inv-loop μ-loop) where
   abbrev lim : LineLimits
   lim = lineLimitsOf (start .args .limits)
 
-  abbrev come : let a = start .args in let x = l .loop in ComeTo lim text (a .old .now) (a .base) (a .i) (a .m) (a .from) (a .b) (a .kept) (stateOf (a .start) (a .widths .now)) (x .inv .0) (x .widths) (x .q) (x .c) (x .k) (x .j) (x .s)
+  abbrev come : let a = start .args in let x = l .loop in ComeTo lim text (a .old .now) (a .place .start) (a .place .line) (a .stop .count) (a .stop .from) (a .stop .end) (a .stop .kept) (stateOf (a .start) (a .widths .now)) (x .inv .0) (x .widths) (x .q) (x .c) (x .k) (x .j) (x .s)
   come = l .loop .inv .1
 
-  abbrev put : let a = start .args in let x = l .loop in PutTo (a .write) (a .base) (a .i) (a .first) (a .lines .now) (a .tokens .now) (x .inv .0) (x .lines) (x .tokens)
+  abbrev put : let a = start .args in let x = l .loop in PutTo (a .place .write) (a .place .start) (a .place .line) (a .place .first) (a .lines .now) (a .tokens .now) (x .inv .0) (x .lines) (x .tokens)
   put = l .loop .inv .2
 
-  few-bytes : start .args .base + length text ≤ 1_048_576
-  few-bytes = start .pre .1 .1 .1 .1 .1 .0 .0
+  few-bytes : start .args .place .start + length text ≤ 1_048_576
+  few-bytes = start .pre .1 .0 .0
 
-  may : let a = start .args in MayPut (a .write) (readFrom lim (stateOf (a .start) (a .widths .now)) (linesOf text)) (a .base + length text) (a .kept) (a .i) (a .first) (length (a .lines .now)) (length (a .tokens .now))
-  may = start .pre .1 .1 .1 .1 .1 .1 .1 .1
+  may : let a = start .args in MayPut (a .place .write) (readFrom lim (stateOf (a .start) (a .widths .now)) (linesOf text)) (a .place .start + length text) (a .stop .kept) (a .place .line) (a .place .first) (length (a .lines .now)) (length (a .tokens .now))
+  may = start .pre .1 .1 .1 .1
 
   first-levels : length (stateOf (start .args .start) (start .args .widths .now) .widths) ≤ maxLevels
   first-levels =
-      let p = start .pre .1 .1 .1 .1 .1 .1 .1 .0 .1 in
+      let p = start .pre .1 .1 .1 .0 .1 in
       omega (arith, length-take-le (start .args .start .levels) (start .args .widths .now) (omega (arith, p .0, p .1)), p .0)
 
-  far : (start .args .base + l .loop .q ≤ 1_048_576) × (start .args .i + l .loop .c ≤ 1_048_576) × (l .loop .s .depth ≤ 1_048_576) × (l .loop .k ≤ 3_000_000)
+  far : (start .args .place .start + l .loop .q ≤ 1_048_576) × (start .args .place .line + l .loop .c ≤ 1_048_576) × (l .loop .s .depth ≤ 1_048_576) × (l .loop .k ≤ 3_000_000)
   far =
-      let p = start .pre .1 .1 .1 .1 .1 in
+      let p = start .pre .1 in
       let g = grown (come .pass) in
-      let at : start .args .base + l .loop .q ≤ 1_048_576 = omega (arith, few-bytes, come .pass .inside) in (
+      let at : start .args .place .start + l .loop .q ≤ 1_048_576 = omega (arith, few-bytes, come .pass .inside) in (
         at,
         omega (arith, g .lines, come .pass .count, p .0 .1 .0),
         omega (arith, g .depth, p .1 .1 .0 .0),
@@ -73,14 +73,17 @@ module _ (l : tie.At-loop Inv-loop μ-loop) where
       )
 
   same-widths : length (l .loop .widths) ≡ length (start .args .widths .now)
-  same-widths = come .pass .wide ∙ sym (start .pre .1 .1 .1 .1 .1 .1 .1 .0 .1 .1)
+  same-widths = come .pass .wide ∙ sym (start .pre .1 .1 .1 .0 .1 .1)
 
 -- The next line's token, and its room where the pass writes.
 next-room : (i : tie.In-loop Inv-loop μ-loop) → let l = i .before in let a = start l .args in let x = l .loop in
-    (a .first + x .k ≤ 3_000_000) × (a .write ≡ true → (lineSize * (a .i + x .c) + lineSize ≤ length (a .lines .now)) × RoomIn (readLine (lim l) (stateOf (x .s) (x .widths)) (lineAt (text l) (x .q))) (a .first + x .k) (length (a .tokens .now)))
+    (a .place .first + x .k ≤ 3_000_000) × (a .place .write ≡ true → (lineSize * (a .place .line + x .c) + lineSize ≤ length (a .lines .now)) × RoomIn (readLine (lim l) (stateOf (x .s) (x .widths)) (lineAt (text l) (x .q))) (a .place .first + x .k) (length (a .tokens .now)))
 next-room i =
     let l = i .before in
     may-next (come l .pass) (i .loop-test .taken) (may l) (far l .3)
+
+abbrev inside : tie.After-old-line Inv-loop μ-loop → tie.In-loop Inv-loop μ-loop
+inside o = o .before .before .before .before .before
 
 -- The place after the next line, which is no stop.
 module _ (n : tie.After-next-line Inv-loop μ-loop) where
@@ -91,25 +94,25 @@ module _ (n : tie.After-next-line Inv-loop μ-loop) where
   compared = goes-on .before .before .before
 
   abbrev here : tie.At-loop Inv-loop μ-loop
-  here = compared .before .before
+  here = inside compared .before
 
   abbrev more : here .loop .q < length (text here)
-  more = compared .before .loop-test .taken
+  more = inside compared .loop-test .taken
 
   abbrev widths-now : List ℕ
-  widths-now = n .next-line .last .1 .1 .1 .1 .1 .1 .1 .1 .1 .1 .1 .1 .1 .1 .0
+  widths-now = n .next-line .last .1 .1 .1 .1 .1 .1 .1 .0
 
-  kept-lines : length (n .next-line .last .1 .1 .1 .1 .1 .1 .1 .1 .0) ≡ length (start here .args .lines .now)
-  kept-lines = n .next-line .kept .1 .1 .1 .1 .1 .1 .1 .1 .0 ∙ lines-kept (put here)
+  kept-lines : length (n .next-line .last .1 .1 .1 .0) ≡ length (start here .args .lines .now)
+  kept-lines = n .next-line .kept .1 .1 .1 .0 ∙ lines-kept (put here)
 
-  kept-tokens : length (n .next-line .last .1 .1 .1 .1 .1 .1 .1 .1 .1 .0) ≡ length (start here .args .tokens .now)
-  kept-tokens = n .next-line .kept .1 .1 .1 .1 .1 .1 .1 .1 .1 .0 ∙ tokens-kept (put here)
+  kept-tokens : length (n .next-line .last .1 .1 .1 .1 .0) ≡ length (start here .args .tokens .now)
+  kept-tokens = n .next-line .kept .1 .1 .1 .1 .0 ∙ tokens-kept (put here)
 
   kept-wide : length widths-now ≡ length (here .loop .widths)
-  kept-wide = n .next-line .kept .1 .1 .1 .1 .1 .1 .1 .1 .1 .1 .1 .1 .1 .1 .0
+  kept-wide = n .next-line .kept .1 .1 .1 .1 .1 .1 .1 .0
 
   abbrev Gave : Step → Type 0
-  Gave = let a = start here .args in let x = here .loop in StepIs widths-now (a .base + x .q) (a .i + x .c + 1) (x .q + sizeAt (text here) (x .q)) (readLine (lim here) (stateOf (x .s) (x .widths)) (lineAt (text here) (x .q)))
+  Gave = let a = start here .args in let x = here .loop in StepIs widths-now (a .place .start + x .q) (a .place .line + x .c + 1) (x .q + sizeAt (text here) (x .q)) (readLine (lim here) (stateOf (x .s) (x .widths)) (lineAt (text here) (x .q)))
 
   gave : (r : Step) → n .next-line .result ≡ r → Gave r
   gave r e = subst Gave e (n .next-line .ensures .0)
@@ -123,77 +126,69 @@ halted-at c = c .before .before .before .before .before .before .before .before 
 loop-holds : tie.Need-loop-holds Inv-loop μ-loop
 loop-holds c =
     let s = c .before .before .before .before .before in
-    let p = s .pre .1 .1 .1 .1 .1 in
+    let p = s .pre .1 in
     ([], come-start (s .args .widths .now) (s .args .start) (p .1 .1 .0 .1 .0) (p .1 .1 .0 .1 .1) (p .1 .1 .0 .1 .2) (p .0 .1 .1 .0), put-start)
 
-add-old-line : tie.Need-add-old-line Inv-loop μ-loop
-add-old-line c = omega (arith, far (c .before))
+add-t22 : tie.Need-add-t22 Inv-loop μ-loop
+add-t22 c = omega (arith, far (c .before .before))
+
+add-t24 : tie.Need-add-t24 Inv-loop μ-loop
+add-t24 c = omega (arith, next-room (c .before .before) .0)
+
+cast-t25 : tie.Need-cast-t25 Inv-loop μ-loop
+cast-t25 c = omega (arith, far (c .before .before .before))
+
+add-t26 : tie.Need-add-t26 Inv-loop μ-loop
+add-t26 c = omega (arith, far (c .before .before .before .before))
+
+cast-at : tie.Need-cast-at Inv-loop μ-loop
+cast-at c = omega (arith, far (c .before .before .before .before .before))
 
 old-line-requires : tie.Need-old-line-requires Inv-loop μ-loop
 old-line-requires c κs =
-    let p = start (c .before) .pre .1 .1 .1 .1 .1 in
-    ((come (c .before) .old, p .1 .0), (p .0 .1 .1 .1, omega (arith, far (c .before))))
-
-add-stops-at : tie.Need-add-stops-at Inv-loop μ-loop
-add-stops-at c = omega (arith, far (c .before .before))
+    let l = c .before .before .before .before .before in
+    let p = start l .pre .1 in
+    ((come l .old, p .1 .0), (p .0 .1 .1 .1, omega (arith, far l)))
 
 stops-at-requires : tie.Need-stops-at-requires Inv-loop μ-loop
 stops-at-requires c κs =
-    let l = c .before .before .before in
-    let p = start l .pre .1 .1 .1 .1 .1 in
+    let l = inside (c .before) .before in
+    let p = start l .pre .1 in
     let old = c .before .old-line .ensures .1 in
     ((come l .pass .wide, (come l .pass .few, (omega (arith, old, p .1 .0 .0), omega (arith, old, p .1 .0 .1)))), (p .0 .1 .1 .1, omega (arith, far l)))
 
 -- A stop.
 
 same-length : tie.Need-same-length Inv-loop μ-loop
-same-length c = lines-kept (put (c .before .before .before .before .before))
+same-length c = lines-kept (put (inside (c .before .before .before) .before))
 
 same-length-2 : tie.Need-same-length-2 Inv-loop μ-loop
-same-length-2 c = tokens-kept (put (c .before .before .before .before .before))
+same-length-2 c = tokens-kept (put (inside (c .before .before .before) .before))
 
 same-length-3 : tie.Need-same-length-3 Inv-loop μ-loop
-same-length-3 c = same-widths (c .before .before .before .before .before)
+same-length-3 c = same-widths (inside (c .before .before .before) .before)
 
 returns : tie.Need-returns Inv-loop μ-loop
 returns c =
     let o = c .before .before .before in
-    let l = o .before .before in
-    let x = stopped (come l) (o .before .loop-test .taken) _ (o .old-line .ensures .0) (o .old-line .ensures .1) (sym (c .before .stops-at .ensures) ∙ c .if1 .taken) in
-    let unput : start l .args .write ≡ true → ⊥ = λ w. omega (arith, may l .ends w, x .1 .0, x .1 .1 .1 .0) in
-    let w = unwritten (put l) unput 0 0 [] [] (sym (putIf-none (start l .args .write) (l .loop .lines) 0)) (sym (putIf-none (start l .args .write) (l .loop .tokens) 0)) _ in
+    let i = inside o in
+    let l = i .before in
+    let x = stopped (come l) (i .loop-test .taken) _ (o .old-line .ensures .0) (o .old-line .ensures .1) (sym (c .before .stops-at .ensures) ∙ c .if1 .taken) in
+    let unput : start l .args .place .write ≡ true → ⊥ = λ w. omega (arith, may l .ends w, x .1 .0, x .1 .1 .1 .0) in
+    let w = unwritten (put l) unput 0 0 [] [] (sym (putIf-none (start l .args .place .write) (l .loop .lines) 0)) (sym (putIf-none (start l .args .place .write) (l .loop .tokens) 0)) _ in
     (x, (tt, (w .line-words, w .token-words)))
 
 -- The next line.
 
-add-next-line : tie.Need-add-next-line Inv-loop μ-loop
-add-next-line c = omega (arith, far (c .before .before .before .before .before .before .before))
-
-add-next-line-2 : tie.Need-add-next-line-2 Inv-loop μ-loop
-add-next-line-2 c = omega (arith, next-room (c .before .before .before .before .before .before) .0)
-
 next-line-requires : tie.Need-next-line-requires Inv-loop μ-loop
 next-line-requires c κs =
-    let i = c .before .before .before .before .before .before .before in
+    let i = inside (c .before .before .before .before .before .before) in
     let l = i .before in
-    let p = start l .pre in
     let room = next-room i in (
-      p .0,
+      start l .pre .0,
       (
-        p .1 .0,
-        (
-          p .1 .1 .0,
-          (
-            p .1 .1 .1 .0,
-            (
-              p .1 .1 .1 .1 .0,
-              (
-                (i .loop-test .taken, (few-bytes l, (omega (arith, far l), room .0))),
-                ((omega (arith, far l), (come l .pass .few, come l .pass .wide, come l .room)), rw (lines-kept (put l), tokens-kept (put l)) (room .1)),
-              ),
-            ),
-          ),
-        ),
+        (i .loop-test .taken, (omega (arith, few-bytes l, come l .pass .inside), (omega (arith, far l), room .0))),
+        ((omega (arith, far l), (come l .pass .few, come l .pass .wide, come l .room)), rw (lines-kept (put l), tokens-kept (put l)) (room .1)),
       ),
     )
 
@@ -247,7 +242,7 @@ returns-2 c =
     let n = halted-at c in
     let l = here n in
     let x = gave n _ (c .before .u .given .1) in
-    let unput = may-read (may l) (stuck (come l) (more n) (x .0) (x .1)) in
+    let unput = may-read (may l .may) (stuck (come l) (more n) (x .0) (x .1)) in
     let w = unwritten (put l) unput _ _ _ _ (n .next-line .ensures .1 .0) (n .next-line .ensures .1 .1) _ in
     (halted (come l) (more n) (x .0) (x .1) _ (x .2), (tt, (w .line-words, w .token-words)))
 
@@ -277,16 +272,17 @@ read-on-spec =
     Inv-loop
     μ-loop
     loop-holds
-    add-old-line
+    add-t22
+    add-t24
+    cast-t25
+    add-t26
+    cast-at
     old-line-requires
-    add-stops-at
     stops-at-requires
     same-length
     same-length-2
     same-length-3
     returns
-    add-next-line
-    add-next-line-2
     next-line-requires
     enum-known-next
     add-c

@@ -1,69 +1,60 @@
--- `rereading::rewrite_lines` meets its contract: reading on comes to the end, since no tail is kept and every line reads.
+-- `rereading::rewrite_lines` meets its contract: every line reads, so the end is reached.
 -- Assumes nothing.
-use Prim.Native.Nat.{ℕ, _+_}
+use Prim.Native.Nat.{ℕ, _+_, _*_}
 use mathlib.Core.Path.{_≡_, refl, subst}
-use mathlib.Core.Bool.{true}
+use mathlib.Core.Bool.{Bool, true}
 use mathlib.Core.List.{List, [], _∷_}
 use mathlib.Core.Logic.{inr, ⊎-elim}
 use native.Mathlib.Omega.{arith}
-use lib.ListN.{length, replicate}
+use lib.ListN.{length}
 use types.Run.{OneOf}
 use denote.Enum.Declared.{tagOf}
 use borrow.Author.Needs.{needs}
 use Rattle.rules.specs.Limits.{LineLimits}
 use Rattle.rules.specs.Line.{State}
-use Rattle.rules.specs.Reading.{Reading, linesOf, readFrom}
+use Rattle.rules.specs.Reading.{Reading, linesOf, readFrom, linesRead}
+use Rattle.rules.specs.Records.{lineSize, tokenSize, lineRecords, tokenRecords}
+use Rattle.laws.specs.Puts.{putIf}
 use Rattle.refusals.specs.Limits.{lineLimitsOf}
-use Rattle.rules.specs.Records.{lineSize}
 use Rattle.records.specs.States.{stateOf}
-use Rattle.rereading.specs.Rereads.{RereadIs}
-use Rattle.rereading.specs.Rewrites.{MayPut, EndsIn}
-use Rattle.rereading.specs.declared.Reread.{Reread}
-use Rattle.rereading.proofs.Reread.{the-type}
-use Rattle.rereading.specs.declared.Reread.the-variants.{Stops, Ends, Refused}
-use Rattle.rereading.proofs.Rewrites.{may-read}
+use Rattle.rereading.specs.Rewrites.{MayWrite, EndIs}
+use Rattle.rereading.specs.declared.ReadToEnd.{ReadToEnd}
+use Rattle.rereading.specs.declared.ReadToEnd.the-variants.{Ends, Refused}
+use Rattle.rereading.proofs.Rewrites.{may-read, reached}
 use Rattle.rereading.proofs.rewrite_lines.Statement.{statement}
 use Rattle.rereading.proofs.rewrite_lines.Tie as tie
 
 module _ (s : tie.Start) where
-  abbrev text : List ℕ
-  text = s .args .text .now
-
-  abbrev z : State
-  z = stateOf (s .args .start) (s .args .widths .now)
-
   abbrev lim : LineLimits
   lim = lineLimitsOf (s .args .limits)
 
-  abbrev end : ℕ
-  end = s .args .base + length text
+  abbrev read : Reading
+  read = readFrom lim (stateOf (s .args .start) (s .args .widths .now)) (linesOf (s .args .text .now))
 
-  may-put : let a = s .args in MayPut true (readFrom lim z (linesOf text)) end end (a .i) (a .first) (length (a .lines .now)) (length (a .tokens .now))
-  may-put = record { ends = λ _. omega arith; room = λ _. s .pre .1 .1 .1 .1 .1 .1 .1 .1; few = inr (s .pre .1 .1 .1 .1 .1 .1 .1 .0) }
+  abbrev may : let a = s .args in MayWrite (a .place .write) read (a .place .line) (a .place .first) (length (a .lines .now)) (length (a .tokens .now))
+  may = record { room = λ _. s .pre .1 .1 .1 .1 .1; few = inr (s .pre .1 .1 .1 .1 .0) }
 
-  -- the text reads and keeps no tail, so it is read to its end
-  comes-to-end : (old : List ℕ) (r : Reread) → RereadIs lim text old (s .args .base) (s .args .i) 0 0 0 end z r → OneOf (0 ∷ 2 ∷ []) (tagOf the-type r) → ⊥
-  comes-to-end old (Stops c k q j) x o = omega (arith, x .1 .0, x .1 .1 .1 .0)
-  comes-to-end old (Ends c k y) x o = ⊎-elim (λ (e : 1 ≡ 0). omega (arith, e)) (λ (e : 1 ≡ 2). omega (arith, e)) o
-  comes-to-end old (Refused u) x o = may-read may-put (x .0 .2) refl
+-- The text is read to its end.
+module _ (r : tie.After-read-to-end) where
+  abbrev start : tie.Start
+  start = r .before .before .before .before .before .before .before .before
 
-abbrev start : tie.After-read-on → tie.Start
-start r = r .before .before .before .before .before .before .before .before .before
+  abbrev Gave : ReadToEnd → Type 0
+  Gave = let p = start .args .place in EndIs (read start) (p .start) (p .line) (r .read-to-end .last .1 .1 .1 .1 .1 .1 .0)
 
-slice-aggregate-read-on : tie.Need-slice-aggregate-read-on
-slice-aggregate-read-on c = search needs
+  gave : (y : ReadToEnd) → r .read-to-end .result ≡ y → Gave y
+  gave y e = subst Gave e (r .read-to-end .ensures .0)
 
-add-read-on : tie.Need-add-read-on
-add-read-on c = search needs
-
-read-on-requires : tie.Need-read-on-requires
-read-on-requires c κs =
-    let s = c .before .before .before .before .before .before .before .before in
-    let p = s .pre in
-    (p .0, (p .1 .0, (p .1 .1 .0, (p .1 .1 .1 .0, (p .1 .1 .1 .1 .0, ((p .1 .1 .1 .1 .1 .0 .0, (p .1 .1 .1 .1 .1 .0 .1, (omega arith, omega arith))), ((omega arith, omega arith), (p .1 .1 .1 .1 .1 .1 .0, record { ends = λ _. omega arith; room = λ _. p .1 .1 .1 .1 .1 .1 .1 .1; few = inr (p .1 .1 .1 .1 .1 .1 .1 .0) }))))))))
+read-to-end-requires : tie.Need-read-to-end-requires
+read-to-end-requires c κs =
+    let s = c .before .before .before .before .before .before .before in
+    (s .pre .0, (s .pre .1 .0, (s .pre .1 .1 .0, may s)))
 
 enum-known-s : tie.Need-enum-known-s
 enum-known-s c = search needs
+
+enum-known-u : tie.Need-enum-known-u
+enum-known-u c = search needs
 
 same-length : tie.Need-same-length
 same-length c = search needs
@@ -78,8 +69,16 @@ returns : tie.Need-returns
 returns c =
     let r = c .before .before .before .before .before .before .before .before .before in
     let a = start r .args in
-    let widths = r .read-on .last .1 .1 .1 .1 .1 .1 .1 .1 .1 .1 .1 .1 .1 .1 .1 .1 .1 .1 .0 in
-    (subst (EndsIn (readFrom (lim (start r)) (stateOf (a .start) (a .widths .now)) (linesOf (a .text .now))) widths) (c .before .s .given .1) (r .read-on .ensures .1 .0), r .read-on .ensures .1 .1)
+    let x = r .read-to-end .last .1 .1 in
+    let es = linesRead (read (start r)) in
+    let g = gave r _ (c .before .s .given .1) in (
+      (reached (g .1), g .4),
+      subst
+          (λ (b : Bool). (x .0 ≡ putIf b (a .lines .now) (lineSize * a .place .line) (lineRecords (a .place .start) (a .place .first) es))
+          × (x .1 .0 ≡ putIf b (a .tokens .now) (tokenSize * a .place .first) (tokenRecords (a .place .start) (a .place .line + 1) es)))
+          (start r .pre .1 .1 .1 .0)
+          (r .read-to-end .ensures .1),
+    )
 
 same-length-4 : tie.Need-same-length-4
 same-length-4 c = search needs
@@ -92,17 +91,17 @@ same-length-6 c = search needs
 
 returns-2 : tie.Need-returns-2
 returns-2 c =
-    let r = c .before .before .before .before .before .before .before in
-    absurd (comes-to-end (start r) (replicate lineSize 0) (r .read-on .result) (r .read-on .ensures .0) (c .match .keys2))
+    let r = c .before .before .before .before .before .before .before .before .before in
+    let s = start r in
+    absurd (may-read (may s) (gave r _ (c .before .u .given .1) .2) (s .pre .1 .1 .1 .0))
 
 pub rewrite-lines-spec : {M : Type 1} → statement M
 rewrite-lines-spec =
     tie.close
     (tie.spec
-    slice-aggregate-read-on
-    add-read-on
-    read-on-requires
+    read-to-end-requires
     enum-known-s
+    enum-known-u
     same-length
     same-length-2
     same-length-3
