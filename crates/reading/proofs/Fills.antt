@@ -2,13 +2,11 @@
 -- Assumes nothing.
 use Prim.Native.Nat.{ℕ, suc, _+_, _*_, _≤_, _<_}
 use mathlib.Core.Path.{_≡_, refl, sym, ap, subst, _∙_}
-use mathlib.Core.List.{List, [], _∷_, _++_}
+use mathlib.Core.List.{List, [], _∷_}
 use native.Mathlib.Omega.{arith}
-use native.Mathlib.Nat.{zero-add}
-use lib.ListN.{length, drop}
-use lib.Seq.{sets, sets-eq}
+use lib.ListN.{length}
+use lib.Seq.{sets}
 use borrow.Author.Tests.{lt-ltb, le-ltb}
-use Rattle.rules.specs.Lists.{overwrite}
 use Rattle.rules.specs.Line.{State, initial, Halt}
 use Rattle.rules.specs.Reading.{linesOf, Entry, Reading, reads, halts, readFrom, byteSum, tokenSum}
 use Rattle.rules.specs.Limits.{maxBytes, maxLevels, LineLimits}
@@ -17,31 +15,13 @@ use Rattle.rules.specs.Records.{lineSize, tokenSize, lineNeed, tokenNeed, withE
 use Rattle.rules.specs.Read.{Filled, notFilled, filled, filledBy}
 use Rattle.rules.proofs.RecordLaws.{fresh-sizes}
 use Rattle.rules.proofs.BoundLaws.{Small, fresh-small}
+use Rattle.copies.proofs.Joins.{front-over}
 use Rattle.refusals.specs.declared.Unread.{Unread}
-use Rattle.reading.specs.declared.Pass.the-variants as pass-variants
 use Rattle.reading.specs.declared.ReadAnswer.{ReadAnswer}
 use Rattle.reading.specs.declared.ReadAnswer.the-variants as answers
-use Rattle.refusals.specs.Unreads.{unreadIn, unreadOf}
-use Rattle.refusals.proofs.Tests.{unread-back}
-use Rattle.reading.specs.Passes.{passOf, linesIn, tokensIn, RoomIn, Counted}
+use Rattle.refusals.specs.Unreads.{unreadOf}
+use Rattle.passes.specs.Passes.{linesIn, tokensIn, RoomIn, Counted}
 use Rattle.reading.specs.Answers.{readNumbers}
-
--- The first pass's answers.
-
-pub pass-counted : (x : Reading) (m k : ℕ) → pass-variants.Records m k ≡ passOf (recordedBy x) → Counted m k x
-unfolding recordedBy recordsOf
-pass-counted (reads es z) m k e = (cc, cc)
-pass-counted (halts es h) m k e = let b : _≡_ {A = ℕ} 0 1 = cc in absurd (omega arith)
-
-pub pass-refused : (f : FreshReading) (u : Unread) → pass-variants.Refused u ≡ passOf f → f ≡ unread (unreadOf u)
-pass-refused (recorded r) u e = let b : _≡_ {A = ℕ} 0 1 = cc in absurd (omega arith)
-pass-refused (unread x) u e =
-    let q : u ≡ unreadIn x = cc in
-    ap unread (sym (ap unreadOf q ∙ unread-back x))
-
-pub overwritten : (xs l : List ℕ) → length xs ≤ length l → sets l 0 xs ≡ overwrite xs l
-unfolding overwrite
-overwritten xs l h = sets-eq xs l 0 (omega arith) ∙ ap (λ (n : ℕ). xs ++ drop n l) (zero-add (length xs))
 
 -- the answer r, and the buffers left as L and T
 abbrev pub Answered : (x : Filled) (r : ReadAnswer) (L T : List ℕ) → Type 0
@@ -137,4 +117,4 @@ module _ (lim : LineLimits) (t L T : List ℕ) where
             let hk : k ≡ r .head .k = d .1 in
             answered-by now _ (answers.Records (length t) m k) L′ T′ (by-reading (reads es z) e)
             (rw (le-ltb (length L) (lineNeed (r .head .m)) (omega arith), le-ltb (length T) (tokenNeed (r .head .k)) (omega arith))
-            ((λ i. 0 ∷ sym (s .0) i ∷ hm i ∷ hk i ∷ []), (gl ∙ overwritten (r .lines) L (omega (arith, s .1)), gt ∙ overwritten (r .tokens) T (omega (arith, s .2)))))
+            ((λ i. 0 ∷ sym (s .0) i ∷ hm i ∷ hk i ∷ []), (gl ∙ front-over L (r .lines) (omega (arith, s .1)), gt ∙ front-over T (r .tokens) (omega (arith, s .2)))))

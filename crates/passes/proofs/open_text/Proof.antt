@@ -1,4 +1,4 @@
--- `reading::open_text` meets its contract.
+-- `passes::open_text` meets its contract.
 -- Assumes nothing.
 use Prim.Native.Nat.{_≤_}
 use mathlib.Core.Path.{_≡_, refl, sym, ap, _∙_}
@@ -12,10 +12,10 @@ use Rattle.refusals.specs.Unreads.{testOf}
 use Rattle.refusals.specs.declared.TextTest.{TextTest}
 use Rattle.refusals.specs.declared.TextTest.the-variants.{Passes, Refused}
 use Rattle.refusals.proofs.Tests.{unread-there, passes-short, freshAfter, fresh-after}
-use Rattle.reading.specs.Passes.{passOf}
-use Rattle.reading.specs.declared.Pass.the-variants as pass-variants
-use Rattle.reading.proofs.open_text.Statement.{statement}
-use Rattle.reading.proofs.open_text.Tie as tie
+use Rattle.passes.specs.Passes.{passOf}
+use Rattle.passes.specs.declared.Pass.the-variants as pass-variants
+use Rattle.passes.proofs.open_text.Statement.{statement}
+use Rattle.passes.proofs.open_text.Tie as tie
 
 -- The tests' answer.
 module _ (x : tie.After-test-text) where

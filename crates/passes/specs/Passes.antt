@@ -7,8 +7,8 @@ use lib.ListN.{length}
 use Rattle.rules.specs.Reading.{Reading, reads, halts, tokenSum}
 use Rattle.rules.specs.Records.{lineNeed, tokenNeed, withEnd, recordsOf, FreshReading, recorded, unread}
 use Rattle.refusals.specs.Unreads.{unreadIn}
-use Rattle.reading.specs.declared.Pass.{Pass}
-use Rattle.reading.specs.declared.Pass.the-variants.{Records, Refused}
+use Rattle.passes.specs.declared.Pass.{Pass}
+use Rattle.passes.specs.declared.Pass.the-variants.{Records, Refused}
 
 -- the numbers of lines and tokens, or why the text does not read
 abbrev pub passOf : FreshReading → Pass

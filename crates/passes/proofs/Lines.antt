@@ -23,14 +23,14 @@ use Rattle.records.specs.declared.State.{State}
 use Rattle.records.specs.States.{stateOf}
 use Rattle.refusals.specs.Unreads.{unreadIn}
 use Rattle.refusals.specs.declared.Unread.{Unread}
-use Rattle.rereading.specs.declared.Reread.the-variants.{Ends}
-use Rattle.rereading.specs.Rereads.{RereadIs, HaltsAs}
-use Rattle.rereading.specs.Rewrites.{RoomFrom, MayPut, Reaches, EndsIn}
+use Rattle.rereading.specs.declared.ReadToEnd.the-variants.{Ends}
+use Rattle.rereading.specs.Rereads.{HaltsAs}
+use Rattle.rereading.specs.Rewrites.{RoomFrom, MayWrite, EndIs}
 use Rattle.rereading.proofs.Rereads.{halts-whole}
 use Rattle.rereading.proofs.Rewrites.{more-lines, more-tokens}
-use Rattle.reading.specs.Passes.{passOf, linesIn, tokensIn, RoomIn}
-use Rattle.reading.specs.declared.Pass.{Pass}
-use Rattle.reading.specs.declared.Pass.the-variants.{Records, Refused}
+use Rattle.passes.specs.Passes.{passOf, linesIn, tokensIn, RoomIn}
+use Rattle.passes.specs.declared.Pass.{Pass}
+use Rattle.passes.specs.declared.Pass.the-variants.{Records, Refused}
 
 end-tokens : (es : List Entry) (z : rules-line.State) → tokenSum (withEnd es z) ≡ tokenSum es + length (z .widths)
 unfolding tokenSum
@@ -45,17 +45,8 @@ pub record EndOf (lim : LineLimits) (t widths : List ℕ) (m k : ℕ) (s : State
   pub levels : length (take (s .levels) widths) ≡ s .levels
   pub few : s .levels ≤ maxLevels
 
-pub end-of : {lim : LineLimits} {t : List ℕ} (old widths : List ℕ) (m k : ℕ) (s : State) → RereadIs lim t old 0 0 0 0 0 (length t) initial (Ends m k s) → EndsIn (readFrom lim initial (linesOf t)) widths (Ends m k s) → length widths ≡ maxLevels
-    → EndOf lim t widths m k s
-end-of old widths m k s x y wide =
-    record {
-      es = x .0 .es;
-      is = x .1 .0 ∙ ap (reads (x .0 .es)) (sym (subst (λ (r : Reading). Reaches r (stateOf s widths)) (x .1 .0) (y .0)));
-      count = x .0 .count;
-      sum = x .0 .tokens;
-      levels = length-take-le (s .levels) widths (omega (arith, y .1));
-      few = y .1;
-    }
+pub end-of : {lim : LineLimits} {t : List ℕ} (widths : List ℕ) (m k : ℕ) (s : State) → EndIs (readFrom lim initial (linesOf t)) 0 0 widths (Ends m k s) → length widths ≡ maxLevels → EndOf lim t widths m k s
+end-of widths m k s x wide = record { es = x .0; is = x .1; count = x .2; sum = x .3; levels = length-take-le (s .levels) widths (omega (arith, x .4)); few = x .4 }
 
 all-tokens : {lim : LineLimits} {t widths : List ℕ} {m k : ℕ} {s : State} (v : EndOf lim t widths m k s) → tokenSum (withEnd (v .es) (stateOf s widths)) ≡ k + s .levels
 all-tokens {widths = widths} {s = s} v = omega (arith, end-tokens (v .es) (stateOf s widths), v .sum, v .levels)
@@ -82,8 +73,8 @@ module _ (lim : LineLimits) (fit : lim .levels ≤ maxLevels) (t : List ℕ) (sh
   end-small v = let b = few (v .es) _ (v .is) .0 in (omega (arith, b .lines, v .count), omega (arith, b .tokens, v .sum, v .levels))
 
   module _ (write : Bool) (lines₀ tokens₀ : List ℕ) (room : write ≡ true → RoomIn whole (length lines₀) (length tokens₀)) where
-    pub may-pass : MayPut write whole (0 + length t) (length t) 0 0 (length lines₀) (length tokens₀)
-    may-pass = record { ends = λ w. omega arith; room = λ w. go whole (room w); few = inl refl }
+    pub may-pass : MayWrite write whole 0 0 (length lines₀) (length tokens₀)
+    may-pass = record { room = λ w. go whole (room w); few = inl refl }
       where
         go : (x : Reading) → RoomIn x (length lines₀) (length tokens₀) → RoomFrom x 0 0 (length lines₀) (length tokens₀)
         go (reads es z) r = (omega (arith, r .0), omega (arith, r .1, end-tokens es z))
