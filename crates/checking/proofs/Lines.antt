@@ -19,9 +19,9 @@ use Rattle.records.specs.States.{stateOf}
 use Rattle.line.specs.LineCuts.{tokensIn, counted}
 use Rattle.records.specs.declared.State.{State}
 use Rattle.lines.proofs.Lines.{PassTo, pass-start, next-pass}
-use Rattle.checking.specs.Same.{agrees, differs, agreedIf, agreedOf, LevelsWithin}
-use Rattle.checking.specs.declared.SameLine.{SameLine}
-use Rattle.checking.specs.declared.SameLine.the-variants.{Agrees, Differs}
+use Rattle.line_check.specs.Same.{agrees, differs, agreedIf, agreedOf, LevelsWithin}
+use Rattle.line_check.specs.declared.SameLine.{SameLine}
+use Rattle.line_check.specs.declared.SameLine.the-variants.{Agrees, Differs}
 use Rattle.checking.proofs.Rest.{restSame, turn-same, turn-other, turn-halts, record-other, count-other, total-other, end-decides, whole-same}
 
 -- a line whose tokens agree

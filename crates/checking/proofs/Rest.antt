@@ -21,8 +21,7 @@ use Rattle.rules.proofs.ListLaws.{and-true}
 use Rattle.rules.proofs.StateLaws.{same-true, same-refl}
 use Rattle.rules.proofs.RecordLaws.{length-stateWords, length-tokenWords, fresh-sizes}
 use Rattle.rules.proofs.PageLaws.{sameRecords-true, sameRecords-refl}
-use Rattle.spelling.proofs.GroupLaws.{same-begins}
-use Rattle.rules.proofs.BeginsLaws.{begins-parts}
+use Rattle.rules.proofs.BeginsLaws.{same-whole, begins-parts}
 
 -- two tests of which each follows from the other
 both-ways : (a b : Bool) → (a ≡ true → b ≡ true) → (b ≡ true → a ≡ true) → a ≡ b
@@ -151,14 +150,14 @@ module _ (lim : LineLimits) (lines tokens : List ℕ) (count total : ℕ) where
 
     -- words that a list of the same length begins with are that list
     begins-whole : (xs ys : List ℕ) → length xs ≡ length ys → begins xs ys ≡ true → xs ≡ ys
-    begins-whole xs ys n e = same-true xs ys (same-begins xs ys n ∙ e)
+    begins-whole xs ys n e = same-true xs ys (same-whole xs ys n ∙ e)
 
     begins-itself : (xs ys : List ℕ) → xs ≡ ys → begins xs ys ≡ true
-    begins-itself xs ys e = rw e (sym (same-begins ys ys refl) ∙ same-refl ys)
+    begins-itself xs ys e = rw e (sym (same-whole ys ys refl) ∙ same-refl ys)
 
-    same-whole : (es : List Entry) (z : State) → readFrom lim initial (linesOf t) ≡ reads es z → sameRecords (recordsOf es z) given ≡ restSame 0 0 0 (reads es z)
+    same-reading : (es : List Entry) (z : State) → readFrom lim initial (linesOf t) ≡ reads es z → sameRecords (recordsOf es z) given ≡ restSame 0 0 0 (reads es z)
     unfolding readLines recordedBy recordsOf
-    same-whole es z e = both-ways _ _ there back
+    same-reading es z e = both-ways _ _ there back
       where
         sizes : (byteSum es ≡ length t) × (length (recordsOf es z .lines) ≡ lineNeed (length es)) × (length (recordsOf es z .tokens) ≡ tokenNeed (tokenSum (withEnd es z)))
         sizes = fresh-sizes lim t (recordsOf es z) (ap recordedBy e)
@@ -192,5 +191,5 @@ module _ (lim : LineLimits) (lines tokens : List ℕ) (count total : ℕ) where
     whole-same = go (readFrom lim initial (linesOf t)) refl
       where
         go : (x : Reading) → readFrom lim initial (linesOf t) ≡ x → isRecorded given (recordedBy x) ≡ restSame 0 0 0 x
-        go (reads es z) e = same-whole es z e
+        go (reads es z) e = same-reading es z e
         go (halts es h) e = refl

@@ -34,7 +34,7 @@ module _ (x : tie.After-test-text) where
 -- The text passed both tests.
 module _ (w : tie.After-widths) where
   abbrev told : tie.After-enum-told2
-  told = w .before .before .before .before .before .before .before .before .before .before .before
+  told = w .before .before .before
 
   abbrev tested : tie.After-test-text
   tested = told .before .before
@@ -59,38 +59,17 @@ returns c =
 enum-told-2 : tie.Need-enum-told-2
 enum-told-2 c = search needs
 
-class-table-requires : tie.Need-class-table-requires
-class-table-requires c κs = search needs
-
-reach-table-requires : tie.Need-reach-table-requires
-reach-table-requires c κs = search needs
-
-sign-index-requires : tie.Need-sign-index-requires
-sign-index-requires c κs = search needs
-
-sign-table-requires : tie.Need-sign-table-requires
-sign-table-requires c κs = search needs
-
-keyword-table-requires : tie.Need-keyword-table-requires
-keyword-table-requires c κs = search needs
+tables-requires : tie.Need-tables-requires
+tables-requires c κs = search needs
 
 slice-aggregate-lines-agree : tie.Need-slice-aggregate-lines-agree
 slice-aggregate-lines-agree c = search needs
 
 lines-agree-requires : tie.Need-lines-agree-requires
 lines-agree-requires c κs =
-    let k = c .before .before .before .before .before .before in
     let x = tested c in
-    let b = x .before .barge-limits in (
-      k .before .before .before .before .class-table .ensures,
-      (
-        k .before .before .before .reach-table .ensures,
-        (
-          k .before .before .sign-index .ensures,
-          (k .before .sign-table .ensures, (k .keyword-table .ensures, ((passes-short barge (text x) (passed c), refl, barge-fits (b .result) (b .ensures) .1), start x .pre))),
-        ),
-      ),
-    )
+    let b = x .before .barge-limits in
+    (c .before .before .tables .ensures, ((passes-short barge (text x) (passed c), refl, barge-fits (b .result) (b .ensures) .1), start x .pre))
 
 returns-2 : tie.Need-returns-2
 returns-2 c =
@@ -108,11 +87,7 @@ is-fresh-spec =
     enum-told
     returns
     enum-told-2
-    class-table-requires
-    reach-table-requires
-    sign-index-requires
-    sign-table-requires
-    keyword-table-requires
+    tables-requires
     slice-aggregate-lines-agree
     lines-agree-requires
     returns-2)

@@ -9,16 +9,16 @@ use Rattle.rules.specs.Lists.{begins}
 use Rattle.rules.specs.Limits.{maxLevels, LineLimits}
 use Rattle.rules.specs.Line.{State, levels, levelsOf, cutsFrom, Halt, lineHalts, readLine}
 use Rattle.rules.specs.Records.{tokenSize, tokenWords}
-use Rattle.line.specs.States.{leading}
+use Rattle.levels.specs.Levels.{leading}
 use Rattle.line.specs.LineCuts.{lineCutsOf, tokensOf, wholeLine, lineReadOf, tokensIn, counted, countedOf}
-use Rattle.line.specs.declared.Lead.{Lead}
+use Rattle.levels.specs.declared.Lead.{Lead}
 use Rattle.line.specs.declared.LineCuts.{LineCuts}
 use Rattle.line.specs.declared.LineCuts.the-variants.{Ends, Stops}
 use Rattle.line.specs.declared.LineRead.{LineRead}
 use Rattle.line.specs.declared.LineRead.the-variants.{Reads, Fails, OverLimit}
 use Rattle.line.proofs.Whole.{line-counted, line-tokens}
-use Rattle.checking.specs.Same.{sameLineIf, differs, agreedIf, agreedOf, LevelsWithin}
-use Rattle.checking.specs.declared.SameLine.{SameLine}
+use Rattle.line_check.specs.Same.{sameLineIf, differs, agreedIf, agreedOf, LevelsWithin}
+use Rattle.line_check.specs.declared.SameLine.{SameLine}
 
 agreed-of : (b : Bool) (y : LineRead) (widths : List ℕ) → agreedOf (sameLineIf b y) widths ≡ agreedIf b (countedOf y widths)
 agreed-of true (Reads n s) widths = refl

@@ -1,39 +1,42 @@
--- `checking::same_cuts` meets its contract. The cuts that are left decide.
+-- `line_check::same_cuts` meets its contract. The cuts that are left decide.
 -- Assumes nothing.
-use Prim.Native.Nat.{ℕ, _+_, _-_, _≤_, _<_}
+use Prim.Native.Nat.{ℕ, _+_, _-_, _*_, _≤_, _<_}
 use mathlib.Core.Path.{_≡_, sym, ap, _∙_}
+use mathlib.Core.List.{[], _∷_}
 use native.Mathlib.Omega.{arith}
 use borrow.Author.Needs.{needs}
 use borrow.Author.Tests.{not-true, not-false}
 use lib.ListN.{length, drop}
+use Rattle.rules.specs.Lists.{begins}
 use Rattle.rules.specs.Cut.{token, cut}
-use Rattle.cut.specs.declared.Cut.{Cut}
-use Rattle.cut.specs.Cuts.{cutOf, failureOf}
-use Rattle.checking.proofs.Cuts.{SameTo, start, at-end, at-comment, at-failure, past-blank, token-inside, other-token, past-token}
-use Rattle.checking.proofs.same_cuts.Statement.{statement}
-use Rattle.checking.proofs.same_cuts.Tie as tie
+use Rattle.rules.specs.Records.{tokenSize}
+use Rattle.literals.specs.declared.Cut.{Cut}
+use Rattle.literals.specs.Cuts.{cutOf, failureOf}
+use Rattle.line_check.proofs.Cuts.{SameTo, start, at-end, at-comment, at-failure, past-blank, token-inside, other-token, past-token}
+use Rattle.line_check.proofs.same_cuts.Statement.{statement}
+use Rattle.line_check.proofs.same_cuts.Tie as tie
 
 abbrev Inv-loop : tie.InvT-loop
-Inv-loop class reach index signs keywords line tokens k position number depth at₀ n₀ open₀ arrow₀ at n «open» arrow = SameTo position number k tokens line depth at n «open» arrow
+Inv-loop tables line tokens place m depth at₀ n₀ open₀ arrow₀ at n «open» arrow = SameTo (place .start) (place .line + 1) (place .first + m) tokens line depth at n «open» arrow
 
 abbrev μ-loop : tie.MeasureT-loop
-μ-loop class reach index signs keywords line tokens k position number depth at₀ n₀ open₀ arrow₀ at n «open» arrow = length line - at
+μ-loop tables line tokens place m depth at₀ n₀ open₀ arrow₀ at n «open» arrow = length line - at
 
 -- The loop, with what the function was called with.
 module _ (l : tie.In-loop Inv-loop μ-loop) where
   abbrev called : tie.Start Inv-loop μ-loop
   called = l .before .before .before .before
 
-  abbrev so-far : let a = called .args in let x = l .before .loop in SameTo (a .position) (a .number) (a .k) (a .tokens .now) (a .line .now) (a .depth) (x .at) (x .n) (x .«open») (x .arrow)
+  abbrev so-far : let a = called .args in let x = l .before .loop in SameTo (a .place .start) (a .place .line + 1) (a .place .first + a .m) (a .tokens .now) (a .line .now) (a .depth) (x .at) (x .n) (x .«open») (x .arrow)
   so-far = l .before .loop .inv
 
   abbrev more : l .before .loop .at < length (called .args .line .now)
   more = l .loop-test .taken
 
-  far : (called .args .position + l .before .loop .at < 1_048_576) × (called .args .k + l .before .loop .n < 5_242_880) × (l .before .loop .«open» < 5_242_880)
+  far : (called .args .place .start + l .before .loop .at < 1_048_576) × (called .args .place .first + called .args .m + l .before .loop .n < 5_242_880) × (l .before .loop .«open» < 5_242_880)
   far =
-      let q = called .pre .1 .1 .1 .1 .1 in
-      (omega (arith, q .0, more), omega (arith, q .0, q .1 .1, more, so-far .few), omega (arith, q .0, q .1 .0, more, so-far .shallow))
+      let q = called .pre .1 in
+      (omega (arith, q .0, more), omega (arith, q .0, q .1 .1 .0, more, so-far .few), omega (arith, q .0, q .1 .0, more, so-far .shallow))
 
 -- The cut at hand.
 module _ (c : tie.After-cut-by-class Inv-loop μ-loop) where
@@ -60,12 +63,11 @@ module _ (t : tie.After-known-told Inv-loop μ-loop) where
 loop-holds : tie.Need-loop-holds Inv-loop μ-loop
 loop-holds c =
     let a = c .before .before .args in
-    start (a .position) (a .number) (a .k) (a .tokens .now) (a .line .now) (a .depth)
+    start (a .place .start) (a .place .line + 1) (a .place .first + a .m) (a .tokens .now) (a .line .now) (a .depth)
 
 cut-by-class-requires : tie.Need-cut-by-class-requires Inv-loop μ-loop
 cut-by-class-requires c κs =
-    let p = called c .pre in
-    (p .0, (p .1 .0, (p .1 .1 .0, (p .1 .1 .1 .0, (p .1 .1 .1 .1 .0, more c)))))
+    (called c .pre .0, more c)
 
 enum-told : tie.Need-enum-told Inv-loop μ-loop
 enum-told c = search needs
@@ -98,25 +100,28 @@ add-same-token c = omega (arith, far (here c))
 cast-same-token : tie.Need-cast-same-token Inv-loop μ-loop
 cast-same-token c = omega (arith, far (here c))
 
-add-same-token-2 : tie.Need-add-same-token-2 Inv-loop μ-loop
-add-same-token-2 c = omega (arith, far (here c))
-
 cast-same-token-2 : tie.Need-cast-same-token-2 Inv-loop μ-loop
-cast-same-token-2 c = omega (arith, called (here c) .pre .1 .1 .1 .1 .1 .0, inside c .1)
-
-cast-same-token-3 : tie.Need-cast-same-token-3 Inv-loop μ-loop
-cast-same-token-3 c = omega (arith, far (here c))
-
-add-same-token-3 : tie.Need-add-same-token-3 Inv-loop μ-loop
-add-same-token-3 c = omega (arith, far (here c))
+cast-same-token-2 c = omega (arith, called (here c) .pre .1 .0, inside c .1)
 
 same-token-requires : tie.Need-same-token-requires Inv-loop μ-loop
-same-token-requires c κs = omega (arith, far (here c))
+same-token-requires c κs =
+    let f = far (here c) in
+    (omega (arith, f .0), (omega (arith, called (here c) .pre .1 .1 .1 .1), omega (arith, f .1)))
+
+-- The token's record is compared.
+same-is : (c : tie.After-same-token Inv-loop μ-loop) → let l = here (c .before) in let a = called l .args in let at = l .before .loop .at in
+    c .same-token .result ≡ begins (kind (c .before) ∷ (a .place .start + at) ∷ size (c .before) ∷ (a .place .line + 1) ∷ (at + 1) ∷ []) (drop (tokenSize * (a .place .first + a .m + l .before .loop .n)) (a .tokens .now))
+same-is c =
+    let l = here (c .before) in
+    let a = called l .args in
+    let at = l .before .loop .at in
+    let e : a .place .first + (a .m + l .before .loop .n) ≡ a .place .first + a .m + l .before .loop .n = omega arith in
+    c .same-token .ensures ∙ ap (λ (i : ℕ). begins (kind (c .before) ∷ (a .place .start + at) ∷ size (c .before) ∷ (a .place .line + 1) ∷ (at + 1) ∷ []) (drop (tokenSize * i) (a .tokens .now))) e
 
 returns-2 : tie.Need-returns-2 Inv-loop μ-loop
 returns-2 c =
     let t = c .before .before in
-    other-token (so-far (here t)) (more (here t)) (kind t) (size t) (token-is t) (sym (not-true _ (c .if1 .taken)) ∙ c .before .same-token .ensures)
+    other-token (so-far (here t)) (more (here t)) (kind t) (size t) (token-is t) (sym (not-true _ (c .if1 .taken)) ∙ same-is (c .before))
 
 depth-by-requires : tie.Need-depth-by-requires Inv-loop μ-loop
 depth-by-requires c κs = omega (arith, far (here (c .before .before)))
@@ -128,7 +133,7 @@ add-n : tie.Need-add-n Inv-loop μ-loop
 add-n c = omega (arith, far (here (token-at c)))
 
 add-at-2 : tie.Need-add-at-2 Inv-loop μ-loop
-add-at-2 c = omega (arith, called (here (token-at c)) .pre .1 .1 .1 .1 .1 .0, inside (token-at c) .1)
+add-at-2 c = omega (arith, called (here (token-at c)) .pre .1 .0, inside (token-at c) .1)
 
 loop-less-2 : tie.Need-loop-less-2 Inv-loop μ-loop
 loop-less-2 c = omega (arith, inside (token-at c) .0, more (here (token-at c)))
@@ -136,7 +141,7 @@ loop-less-2 c = omega (arith, inside (token-at c) .0, more (here (token-at c)))
 loop-again-2 : tie.Need-loop-again-2 Inv-loop μ-loop
 loop-again-2 c =
     let t = token-at c in
-    past-token (so-far (here t)) (more (here t)) (kind t) (size t) (token-is t) (sym (not-false _ (c .before .if1 .left)) ∙ c .before .before .same-token .ensures) _ (c .depth-by .ensures)
+    past-token (so-far (here t)) (more (here t)) (kind t) (size t) (token-is t) (sym (not-false _ (c .before .if1 .left)) ∙ same-is (c .before .before)) _ (c .depth-by .ensures)
 
 enum-told-3 : tie.Need-enum-told-3 Inv-loop μ-loop
 enum-told-3 c = search needs
@@ -166,10 +171,7 @@ same-cuts-spec =
     enum-known-kind
     add-same-token
     cast-same-token
-    add-same-token-2
     cast-same-token-2
-    cast-same-token-3
-    add-same-token-3
     same-token-requires
     returns-2
     depth-by-requires

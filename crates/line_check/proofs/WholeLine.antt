@@ -12,14 +12,14 @@ use Rattle.rules.specs.Kinds.{Newline}
 use Rattle.rules.specs.Line.{Token, tokenAt, Cuts, cuts, stops, depthAfter, arrowAfter}
 use Rattle.rules.specs.Records.{tokenSize, tokenWords}
 use Rattle.rules.proofs.RecordLaws.{length-tokenWords}
-use Rattle.line.specs.States.{leading}
+use Rattle.levels.specs.Levels.{leading}
 use Rattle.line.specs.LineCuts.{lineCutsOf, tokensOf, wholeLine, lineReadOf}
-use Rattle.line.specs.declared.Lead.{Lead}
+use Rattle.levels.specs.declared.Lead.{Lead}
 use Rattle.line.proofs.Whole.{words-append}
-use Rattle.checking.specs.Same.{sameCutsIf, sameLineIf}
-use Rattle.checking.specs.declared.SameCuts.the-variants as same-cuts
-use Rattle.checking.specs.declared.SameLine.{SameLine}
-use Rattle.checking.specs.declared.SameLine.the-variants.{Agrees, Differs}
+use Rattle.line_check.specs.Same.{sameCutsIf, sameLineIf}
+use Rattle.line_check.specs.declared.SameCuts.the-variants as same-cuts
+use Rattle.line_check.specs.declared.SameLine.{SameLine}
+use Rattle.line_check.specs.declared.SameLine.the-variants.{Agrees, Differs}
 use Rattle.rules.proofs.BeginsLaws.{begins-parts}
 
 -- cuts that agree
@@ -45,7 +45,7 @@ module _ (lead : Lead) (line : List ℕ) (d p number k m : ℕ) (tokens : List �
   cutsSame x = begins (tokenWords p number (tokensOf x)) (drop (tokenSize * (k + m)) tokens)
 
   abbrev newlineSame : ℕ → Bool
-  newlineSame n = begins (Newline ∷ (p + length line) ∷ 0 ∷ number ∷ (length line + 1) ∷ []) (drop (tokenSize * (k + m + n)) tokens)
+  newlineSame n = begins (Newline ∷ (p + length line) ∷ 0 ∷ number ∷ (length line + 1) ∷ []) (drop (tokenSize * (k + (m + n))) tokens)
 
   abbrev wholeSame : Cuts → Bool
   wholeSame x = begins (tokenWords p number (tokensOf (wholeLine lead line x))) (drop (tokenSize * k) tokens)
@@ -66,7 +66,7 @@ module _ (lead : Lead) (line : List ℕ) (d p number k m : ℕ) (tokens : List �
       ap (λ (x : List ℕ). begins x (drop (tokenSize * k) tokens)) words
       ∙ begins-parts first (second ++ (Newline ∷ (p + length line) ∷ 0 ∷ number ∷ (length line + 1) ∷ [])) tokens (tokenSize * k) (tokenSize * (k + m)) (omega (arith, many, length-tokenWords p number (leading lead)))
       ∙ ap (λ (b : Bool). leadSame && b)
-      (begins-parts second (Newline ∷ (p + length line) ∷ 0 ∷ number ∷ (length line + 1) ∷ []) tokens (tokenSize * (k + m)) (tokenSize * (k + m + length ts)) (omega (arith, length-tokenWords p number ts)))
+      (begins-parts second (Newline ∷ (p + length line) ∷ 0 ∷ number ∷ (length line + 1) ∷ []) tokens (tokenSize * (k + m)) (tokenSize * (k + (m + length ts))) (omega (arith, length-tokenWords p number ts)))
 
   answer-by : (ts : List Token) (b : Bool) → (leadSame && (cutsSame (cuts ts) && newlineSame (length ts))) ≡ b → answer (cuts ts) ≡ sameLineIf b (lineReadOf lead (lineCutsOf d (cuts ts)))
   answer-by ts b e = ap (λ (y : Bool). sameLineIf y (lineReadOf lead (lineCutsOf d (cuts ts)))) (whole-parts ts ∙ e)

@@ -11,10 +11,10 @@ use Rattle.line.specs.declared.LineCuts.{LineCuts}
 use Rattle.line.specs.declared.LineCuts.the-variants as cuts-variants
 use Rattle.line.specs.declared.LineRead.{LineRead}
 use Rattle.line.specs.declared.LineRead.the-variants as read-variants
-use Rattle.checking.specs.declared.SameCuts.{SameCuts}
-use Rattle.checking.specs.declared.SameCuts.the-variants as same-cuts
-use Rattle.checking.specs.declared.SameLine.{SameLine}
-use Rattle.checking.specs.declared.SameLine.the-variants as same-line
+use Rattle.line_check.specs.declared.SameCuts.{SameCuts}
+use Rattle.line_check.specs.declared.SameCuts.the-variants as same-cuts
+use Rattle.line_check.specs.declared.SameLine.{SameLine}
+use Rattle.line_check.specs.declared.SameLine.the-variants as same-line
 
 -- the cuts of a line, where the words agree
 abbrev pub sameCutsIf : Bool → LineCuts → SameCuts

@@ -1,13 +1,13 @@
--- `checking::leading_size` meets its contract.
+-- `line_check::leading_size` meets its contract.
 -- Assumes nothing.
 use mathlib.Core.Path.{sym, ap, _∙_}
 use lib.ListN.{length, length-replicate}
 use Rattle.rules.specs.Kinds.{Dedent}
 use Rattle.rules.specs.Line.{tokenAt}
-use Rattle.line.proofs.Whole.{lead-closes}
+use Rattle.levels.proofs.Leading.{lead-closes}
 use borrow.Author.Needs.{needs}
-use Rattle.checking.proofs.leading_size.Statement.{statement}
-use Rattle.checking.proofs.leading_size.Tie as tie
+use Rattle.line_check.proofs.leading_size.Statement.{statement}
+use Rattle.line_check.proofs.leading_size.Tie as tie
 
 returns : tie.Need-returns
 returns c = search needs

@@ -9,7 +9,7 @@ use native.Mathlib.Nat.{add-zero}
 use lib.ListN.{drop}
 use Rattle.rules.specs.Lists.{begins}
 use Rattle.rules.specs.Kinds.{Dedent}
-use Rattle.rules.specs.Line.{Token, dedents}
+use Rattle.rules.specs.Line.{Token, tokenAt, dedents}
 use Rattle.rules.specs.Records.{tokenSize, tokenWords}
 use Rattle.rules.proofs.BeginsLaws.{begins-parts}
 
@@ -30,15 +30,13 @@ module _ (p l : ℕ) (tokens : List ℕ) where
   -- Dedents, one at a time.
 
   abbrev pub oneDedent : ℕ → Bool
-  oneDedent k = begins (Dedent ∷ p ∷ 0 ∷ l ∷ 1 ∷ []) (drop (tokenSize * k) tokens)
+  oneDedent k = begins (oneToken p l (tokenAt Dedent 0 0)) (drop (tokenSize * k) tokens)
 
   abbrev pub manyDedents : (k count : ℕ) → Bool
   manyDedents k count = begins (tokenWords p l (dedents count)) (drop (tokenSize * k) tokens)
 
   dedent-then : (k n : ℕ) → manyDedents k (suc n) ≡ (oneDedent k && manyDedents (k + 1) n)
-  dedent-then k n =
-      token-then k (record { kind = Dedent; at = 0; size = 0 }) (dedents n)
-      ∙ ap (λ (i : ℕ). begins (Dedent ∷ i ∷ 0 ∷ l ∷ 1 ∷ []) (drop (tokenSize * k) tokens) && manyDedents (k + 1) n) (add-zero p)
+  dedent-then k n = token-then k (tokenAt Dedent 0 0) (dedents n)
 
   module _ (k count j : ℕ) (h : j < count) where
     left : count - j ≡ suc (count - (j + 1))

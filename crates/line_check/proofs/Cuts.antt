@@ -16,13 +16,14 @@ use Rattle.rules.specs.Cut.{blank, comment, token, fails, cut}
 use Rattle.rules.specs.Line.{Token, tokenAt, Cuts, cuts, stops, withToken, movedBy, cutsFrom, depthAfter, arrowAfter}
 use Rattle.rules.specs.Records.{tokenSize, tokenWords}
 use Rattle.rules.proofs.CutLaws.{cuts-end, cuts-blank, cuts-comment, cuts-token, cuts-fails}
-use Rattle.line.specs.States.{depthBy}
+use Rattle.cursor.specs.Cursors.{depthBy}
 use Rattle.line.specs.LineCuts.{lineCutsOf, tokensOf}
-use Rattle.line.proofs.Progress.{depth-by-le, token-at}
-use Rattle.checking.specs.Same.{sameCutsIf}
-use Rattle.checking.specs.declared.SameCuts.{SameCuts}
-use Rattle.checking.specs.declared.SameCuts.the-variants.{Ends, Differs}
-use Rattle.checking.proofs.Tokens.{oneToken, token-then, no-tokens}
+use Rattle.cursor.proofs.Depths.{depth-by-le}
+use Rattle.line.proofs.Progress.{token-at}
+use Rattle.line_check.specs.Same.{sameCutsIf}
+use Rattle.line_check.specs.declared.SameCuts.{SameCuts}
+use Rattle.line_check.specs.declared.SameCuts.the-variants.{Ends, Differs}
+use Rattle.line_check.proofs.Tokens.{oneToken, token-then, no-tokens}
 
 -- what cuts give after n tokens that left this depth and arrow, where their words agree
 abbrev moreCuts : (n d : ℕ) → Bool → (same : Bool) → Cuts → SameCuts

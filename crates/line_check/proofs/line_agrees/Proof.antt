@@ -1,6 +1,6 @@
--- `checking::line_agrees` meets its contract.
+-- `line_check::line_agrees` meets its contract.
 -- Assumes nothing.
-use Prim.Native.Nat.{ℕ, _≤_}
+use Prim.Native.Nat.{ℕ, _+_, _≤_}
 use mathlib.Core.Path.{_≡_, subst}
 use mathlib.Core.List.{List}
 use native.Mathlib.Omega.{arith}
@@ -10,14 +10,14 @@ use Rattle.rules.specs.Limits.{maxLevels, LineLimits}
 use Rattle.rules.specs.Line.{State, levels, failed, overLimit, indentSize, cutsFrom, levelsOf}
 use Rattle.records.specs.States.{stateOf}
 use Rattle.refusals.specs.Limits.{lineLimitsOf}
-use Rattle.line.specs.States.{leading, Within}
+use Rattle.levels.specs.Levels.{leading, Within}
 use Rattle.line.specs.LineCuts.{lineCutsOf}
-use Rattle.line.specs.declared.Lead.{Lead}
+use Rattle.levels.specs.declared.Lead.{Lead}
 use Rattle.line.proofs.Whole.{read-unequal, read-beyond, levels-known}
-use Rattle.checking.proofs.LineReplies.{agreed-line, halted-line, agrees-within}
+use Rattle.line_check.proofs.LineReplies.{agreed-line, halted-line, agrees-within}
 use borrow.Author.Needs.{needs}
-use Rattle.checking.proofs.line_agrees.Statement.{statement}
-use Rattle.checking.proofs.line_agrees.Tie as tie
+use Rattle.line_check.proofs.line_agrees.Statement.{statement}
+use Rattle.line_check.proofs.line_agrees.Tie as tie
 
 -- What the function was called with.
 module _ (s : tie.Start) where
@@ -49,13 +49,13 @@ module _ (k : tie.After-known-told) where
   within = subst Within (k .before .lead .given .1) (compared .levels-of .ensures .1 .0)
 
 leading-spaces-requires : tie.Need-leading-spaces-requires
-leading-spaces-requires c κs = c .before .before .before .pre .1 .0
+leading-spaces-requires c κs = c .before .before .before .pre .0
 
 levels-of-requires : tie.Need-levels-of-requires
 levels-of-requires c κs =
     let r = c .before in
     let s = r .before .before .before .before in
-    let q = s .pre .1 .1 .1 .1 .1 in
+    let q = s .pre .1 in
     ((omega (arith, q .0 .0), q .1 .0, q .1 .1, q .1 .2), r .leading-spaces .ensures)
 
 enum-known-lead : tie.Need-enum-known-lead
@@ -64,7 +64,7 @@ enum-known-lead c = search needs
 tokens-agree-requires : tie.Need-tokens-agree-requires
 tokens-agree-requires c κs =
     let p = start (compared c) .pre in
-    (p .0, (p .1 .0, (p .1 .1 .0, (p .1 .1 .1 .0, (p .1 .1 .1 .1 .0, (p .1 .1 .1 .1 .1 .0, within c .1))))))
+    (p .0, (p .1 .0, within c .1))
 
 enum-told : tie.Need-enum-told
 enum-told c = search needs
@@ -80,7 +80,7 @@ returns c =
     let k = c .before in
     let s = start (compared k) in
     let a = s .args in (
-      agreed-line (lim s) (state s) (line s) (lead k) _ (a .position) (a .number) (a .k) (a .tokens .now) _ (levels-are k) (c .tokens-agree .ensures),
+      agreed-line (lim s) (state s) (line s) (lead k) _ (a .place .start) (a .place .line + 1) (a .place .first) (a .tokens .now) _ (levels-are k) (c .tokens-agree .ensures),
       agrees-within (lead k) _ (lineCutsOf (a .s .depth) (cutsFrom 0 0 (line s))) _ (c .tokens-agree .ensures) (within k .0),
     )
 

@@ -1,0 +1,4 @@
+pub mod Tokens
+pub mod Cuts
+pub mod WholeLine
+pub mod LineReplies
