@@ -10,8 +10,7 @@ use lib.ListN.{take}
 use borrow.Author.Tests.{lt-ltb, le-ltb, ltb-false}
 use Rattle.rules.specs.Lists.{if_then_else_}
 use Rattle.rules.specs.Reading.{countLF}
-use Rattle.planning.specs.Starts.{isUsable}
-use Rattle.planning.specs.Plans.{beginLine}
+use Rattle.planning.specs.Starts.{isUsable, beginLine}
 use Rattle.planning.proofs.Starts.{Usable, usable-true}
 
 module _ (text lines : List ℕ) (m k a : ℕ) where

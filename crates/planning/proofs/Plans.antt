@@ -40,11 +40,11 @@ use Rattle.records.proofs.Words.{state-words, state-from}
 use Rattle.rereading.proofs.Rereads.{halts-whole}
 use Rattle.rereading.proofs.OldLines.{start-is, first-is, state-is, levels-at}
 use Rattle.records.specs.Words.{lineWord, stateFrom}
-use Rattle.planning.specs.Starts.{isUsable}
-use Rattle.planning.specs.Plans.{linesAfter, tokensAfter, roomed, beginLine, stopPlan, stopAnswer, endPlan, newLines, plannedLines, ReadsAs, Planned, Mends, LineRefusal, OnPaper, PlanIs}
-use Rattle.planning.specs.declared.Plan.{Plan}
-use Rattle.planning.specs.declared.PlanAnswer.the-variants as answers
-use Rattle.planning.specs.declared.PlanAnswer.the-variants.{Writes, ShortLines, ShortTokens, Unfit}
+use Rattle.plans.specs.Plans.{linesAfter, tokensAfter, roomed, stopPlan, stopAnswer, endPlan, newLines, plannedLines, ReadsAs, Planned, Mends, LineRefusal, OnPaper, PlanIs}
+use Rattle.plans.specs.declared.Plan.{Plan}
+use Rattle.plans.specs.declared.PlanAnswer.the-variants as answers
+use Rattle.plans.specs.declared.PlanAnswer.the-variants.{Writes, ShortLines, ShortTokens, Unfit}
+use Rattle.planning.specs.Starts.{isUsable, beginLine}
 use Rattle.planning.proofs.Starts.{Usable, true-usable}
 use Rattle.planning.proofs.Begins.{Begun, begin-at}
 

@@ -21,8 +21,8 @@ use Rattle.records.specs.declared.State as line-state
 use Rattle.rereading.specs.Rewrites.{RoomFrom, FewFrom, Reaches}
 use Rattle.rereading.proofs.Rewrites.{more-lines, more-tokens}
 use Rattle.records.specs.Words.{stateFrom}
-use Rattle.planning.specs.Plans.{newLines, plannedLines, ReadsAs, Planned, Roomy}
-use Rattle.planning.specs.declared.Plan.{Plan}
+use Rattle.plans.specs.Plans.{newLines, plannedLines, ReadsAs, Planned, Roomy}
+use Rattle.plans.specs.declared.Plan.{Plan}
 use Rattle.writing.specs.Writes.{written}
 
 -- the numbers of a plan, each far within its word

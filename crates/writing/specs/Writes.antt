@@ -6,8 +6,8 @@ use lib.ListN.{length, take}
 use Rattle.rules.specs.Reading.{Entry}
 use Rattle.rules.specs.Records.{lineSize, tokenSize, lineRecords, tokenRecords}
 use Rattle.moving.specs.Moved.{movedLines, movedTokens}
-use Rattle.planning.specs.declared.Plan.{Plan}
-use Rattle.planning.specs.Plans.{newLines, plannedLines}
+use Rattle.plans.specs.declared.Plan.{Plan}
+use Rattle.plans.specs.Plans.{newLines, plannedLines}
 
 -- the lines that a plan writes, for the edited text u and the old line words
 abbrev pub written : (u lines : List ℕ) → Plan → List Entry

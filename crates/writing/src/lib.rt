@@ -9,34 +9,24 @@ ghost use Rattle.rules.specs.Line.{dedents};
 ghost use Rattle.rules.specs.Limits.{maxLevels};
 ghost use Rattle.rules.specs.Records.{lineSize, tokenSize, lineRecord, tokenWords};
 ghost use Rattle.records.specs.States.{stateOf};
-ghost use Rattle.planning.specs.Plans.{Planned, Roomy};
+ghost use Rattle.plans.specs.Plans.{Planned, Roomy};
 ghost use Rattle.writing.specs.Writes.{lineTail, tokenTail};
 
 // The end's record and its Dedents, where the plan ends there.
-fn put_end(
-    lines: &mut [u32],
-    tokens: &mut [u32],
-    p: planning::Plan,
-    s: records::State,
-    widths: &[u32],
-)
+fn put_end(lines: &mut [u32], tokens: &mut [u32], p: plans::Plan, s: records::State, widths: &[u32])
     requires { ⌜ (length (now widths) ≡ maxLevels) × (s .levels ≤ maxLevels) ⌝ }
     requires { ⌜ (p .i ≤ 1_048_576) × ((p .count ≤ 1_048_577) × ((p .new ≤ 1_048_576) × (p .first + p .read ≤ 2_097_152))) ⌝ }
     requires { ⌜ (p .ends ≡ true → (lineSize * (p .i + p .count) + lineSize ≤ length (now lines)) × (tokenSize * (p .first + p .read + s .levels) ≤ length (now tokens))) ⌝ }
     ensures { λ _. ⌜ now (lines .exit) ≡ putIf (p .ends) (now (lines .entry)) (lineSize * (p .i + p .count)) (lineRecord (p .new) (p .first + p .read) (stateOf s (now (widths .entry)))) ⌝ }
     ensures { λ _. ⌜ now (tokens .exit) ≡ putIf (p .ends) (now (tokens .entry)) (tokenSize * (p .first + p .read)) (tokenWords (p .new) (p .i + p .count + 1) (dedents (s .levels))) ⌝ }
 {
-    let line = p.i + p.count;
-    let token = p.first + p.read;
-    records::put_line(lines, p.ends, line, p.new as u32, token as u32, s, widths);
-    line::put_dedents(
-        tokens,
-        p.ends,
-        token,
-        s.levels,
-        p.new as u32,
-        line as u32 + 1,
-    );
+    let place = records::Place {
+        write: p.ends,
+        line: p.i + p.count,
+        first: p.first + p.read,
+        start: p.new as u32,
+    };
+    lines::put_end(lines, tokens, place, s, widths);
 }
 
 // The kept records are moved, and the lines read again are written before them.
@@ -46,7 +36,7 @@ pub fn write_records(
     tokens: &mut [u32],
     m: usize,
     k: usize,
-    p: planning::Plan,
+    p: plans::Plan,
 )
     requires { ⌜ (length (now edited) ≤ 1_048_576) × ((lineSize * (m + 1) ≤ length (now lines)) × (tokenSize * k ≤ length (now tokens))) ⌝ }
     requires { ⌜ Planned (now edited) (now lines) m k p ⌝ }
@@ -76,26 +66,22 @@ pub fn write_records(
         p.from as u32,
         (p.first + p.tokens) as u32,
     );
-    let class = spelling::class_table();
-    let reach = spelling::reach_table();
-    let index = spelling::sign_index();
-    let signs = spelling::sign_table();
-    let keywords = spelling::keyword_table();
+    let tables = tables::tables();
     let limits = refusals::barge_limits();
     let base = p.base;
     let end = p.new;
+    let place = records::Place {
+        write: true,
+        line: p.i,
+        first: p.first,
+        start: base as u32,
+    };
     let z = rereading::rewrite_lines(
-        &class,
-        &reach,
-        &index,
-        &signs,
-        &keywords,
+        &tables,
         &edited[base..end],
-        base,
         lines,
         tokens,
-        p.i,
-        p.first,
+        place,
         limits.line,
         &mut widths,
         s,

@@ -14,7 +14,7 @@ use Rattle.rules.proofs.PageLaws.{fits-true}
 use Rattle.rereading.specs.declared.Reread.{Reread}
 use Rattle.header.specs.Pages.{page}
 use Rattle.records.specs.Words.{lineWord}
-use Rattle.planning.specs.Plans.{editOf}
+use Rattle.plans.specs.Plans.{editOf}
 use Rattle.planning.proofs.Begins.{Begun, begun}
 use Rattle.planning.proofs.Plans.{Editable, begins-within, inside-u, edited-holds, Gives, gives, stop-small, stop-plan, end-small, end-plan, halt-plan}
 use borrow.Author.Needs.{needs}

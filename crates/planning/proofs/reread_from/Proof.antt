@@ -16,20 +16,8 @@ use Rattle.records.specs.Words.{lineWord}
 use Rattle.planning.proofs.reread_from.Statement.{statement}
 use Rattle.planning.proofs.reread_from.Tie as tie
 
-class-table-requires : tie.Need-class-table-requires
-class-table-requires c κs = search needs
-
-reach-table-requires : tie.Need-reach-table-requires
-reach-table-requires c κs = search needs
-
-sign-index-requires : tie.Need-sign-index-requires
-sign-index-requires c κs = search needs
-
-sign-table-requires : tie.Need-sign-table-requires
-sign-table-requires c κs = search needs
-
-keyword-table-requires : tie.Need-keyword-table-requires
-keyword-table-requires c κs = search needs
+tables-requires : tie.Need-tables-requires
+tables-requires c κs = search needs
 
 barge-limits-requires : tie.Need-barge-limits-requires
 barge-limits-requires c κs = search needs
@@ -39,13 +27,13 @@ slice-aggregate-load-state c = search needs
 
 load-state-requires : tie.Need-load-state-requires
 load-state-requires c κs =
-    let p = c .before .before .before .before .before .before .before .before .before .pre in
+    let p = c .before .before .before .before .before .pre in
     ((p .0 .0, (omega (arith, p .0 .1 .0, p .0 .1 .1 .1), refl)), p .1 .0 .1 .1)
 
 -- The place where the state is loaded.
 module _ (l : tie.After-load-state) where
   abbrev start : tie.Start
-  start = l .before .before .before .before .before .before .before .before .before .before
+  start = l .before .before .before .before .before .before
 
   abbrev limits : tie.After-barge-limits
   limits = l .before .before
@@ -53,17 +41,17 @@ module _ (l : tie.After-load-state) where
   abbrev base : ℕ
   base = lineWord (start .args .lines .now) (start .args .i) 0
 
-mul-base : tie.Need-mul-base
-mul-base c = search needs
+mul-start : tie.Need-mul-start
+mul-start c = search needs
 
-add-base : tie.Need-add-base
-add-base c = search needs
+add-start : tie.Need-add-start
+add-start c = search needs
 
-mul-base-2 : tie.Need-mul-base-2
-mul-base-2 c = search needs
+mul-start-2 : tie.Need-mul-start-2
+mul-start-2 c = search needs
 
-shared-slice-read-base : tie.Need-shared-slice-read-base
-shared-slice-read-base c = let p = start (c .before .before) .pre .0 in omega (arith, p .1 .0, p .1 .1 .1)
+shared-slice-read-start : tie.Need-shared-slice-read-start
+shared-slice-read-start c = let p = start (c .before .before) .pre .0 in omega (arith, p .1 .0, p .1 .1 .1)
 
 cast-base : tie.Need-cast-base
 cast-base c = omega (arith, c .shared-slice-known3 .given (lineSize * start (c .before .before) .args .i + 0))
@@ -88,35 +76,22 @@ slice-aggregate-read-on-3 c = search needs
 
 read-on-requires : tie.Need-read-on-requires
 read-on-requires c κs =
-    let l = c .before .before .before .before .before .before .before .before .before .before .before in
-    let t = limits l .before in
+    let l = c .before .before .before .before .before .before .before in
     let b = limits l .barge-limits in
     let s = start l in
     let E = s .args .edited .now in
     let d : l .load-state .result .depth ≡ lineWord (s .args .lines .now) (s .args .i) 2 = ap (λ (y : State). y .depth) (l .load-state .ensures .0) in (
-      t .before .before .before .before .class-table .ensures,
+      limits l .before .tables .ensures,
       (
-        t .before .before .before .reach-table .ensures,
         (
-          t .before .before .sign-index .ensures,
+          omega (arith, length-take (length E - base l) (drop (base l) E), length-drop (base l) E, s .pre .1 .1 .1 .0, s .pre .1 .1 .0),
+          (s .pre .1 .0 .0, (s .pre .0 .1 .0, s .pre .1 .1 .1 .1)),
+        ),
+        (
+          s .pre .0 .1 .1,
           (
-            t .before .sign-table .ensures,
-            (
-              t .keyword-table .ensures,
-              (
-                (
-                  omega (arith, length-take (length E - base l) (drop (base l) E), length-drop (base l) E, s .pre .1 .1 .1 .0, s .pre .1 .1 .0),
-                  (s .pre .1 .0 .0, (s .pre .0 .1 .0, s .pre .1 .1 .1 .1)),
-                ),
-                (
-                  s .pre .0 .1 .1,
-                  (
-                    (omega (arith, d, s .pre .1 .0 .1 .0), (l .load-state .ensures .1, l .load-state .kept .1 .1 .0, barge-fits (b .result) (b .ensures) .1)),
-                    record { ends = λ e. absurd (false≢true e); room = λ e. absurd (false≢true e); few = inl refl },
-                  ),
-                ),
-              ),
-            ),
+            (omega (arith, d, s .pre .1 .0 .1 .0), (l .load-state .ensures .1, l .load-state .kept .1 .1 .0, barge-fits (b .result) (b .ensures) .1)),
+            record { ends = λ e. absurd (false≢true e); may = record { room = λ e. absurd (false≢true e); few = inl refl } },
           ),
         ),
       ),
@@ -125,7 +100,7 @@ read-on-requires c κs =
 returns : tie.Need-returns
 returns c =
     let r = c .before .before .before in
-    let l = r .before .before .before .before .before .before .before .before .before .before .before .before in
+    let l = r .before .before .before .before .before .before .before .before in
     let s = start l in
     let E = s .args .edited .now in
     let rest = take-all (length E - base l) (drop (base l) E) (omega (arith, length-drop (base l) E)) in
@@ -136,18 +111,14 @@ pub reread-from-spec : {M : Type 1} → statement M
 reread-from-spec =
     tie.close
     (tie.spec
-    class-table-requires
-    reach-table-requires
-    sign-index-requires
-    sign-table-requires
-    keyword-table-requires
+    tables-requires
     barge-limits-requires
     slice-aggregate-load-state
     load-state-requires
-    mul-base
-    add-base
-    mul-base-2
-    shared-slice-read-base
+    mul-start
+    add-start
+    mul-start-2
+    shared-slice-read-start
     cast-base
     sub-read-on
     part-read-on-start

@@ -12,7 +12,7 @@ use Rattle.refusals.proofs.Barge.{barge-line, barge-fits}
 use Rattle.records.specs.States.{stateOf}
 use Rattle.rereading.specs.Rewrites.{Reaches}
 use Rattle.records.specs.Words.{lineWord}
-use Rattle.planning.specs.Plans.{plannedLines, Planned}
+use Rattle.plans.specs.Plans.{plannedLines, Planned}
 use Rattle.writing.proofs.Writes.{Bounds, bounds, Reached, new-le, part-lines, few-from, room-moved, end-room, lines-written, tokens-written}
 use borrow.Author.Needs.{needs}
 use Rattle.writing.proofs.write_records.Statement.{statement}
@@ -29,13 +29,13 @@ loaded c = c .before .before .before .before .before .before .before .before .be
 abbrev tokens-moved : tie.After-move-lines → tie.After-move-tokens
 tokens-moved c = c .before .before .before .before .before .before .before .before .before .before
 
-abbrev lines-moved : tie.After-keyword-table → tie.After-move-lines
-lines-moved c = c .before .before .before .before .before .before .before
+abbrev lines-moved : tie.After-tables → tie.After-move-lines
+lines-moved c = c .before .before .before
 
 abbrev limited : tie.After-rewrite-lines → tie.After-barge-limits
-limited c = c .before .before .before .before .before .before .before .before .before .before
+limited c = c .before .before .before .before .before .before
 
-abbrev tabled : tie.After-rewrite-lines → tie.After-keyword-table
+abbrev tabled : tie.After-rewrite-lines → tie.After-tables
 tabled c = limited c .before
 
 abbrev rewritten : tie.After-put-end → tie.After-rewrite-lines
@@ -119,40 +119,31 @@ move-lines-requires c κs =
     let s = start (loaded (c .before .before .before .before .before .before .before .before .before)) in
     (omega (arith, s .pre .0 .1 .0, planned s .j-le), omega (arith, s .pre .1 .1 .line-room))
 
-class-table-requires : tie.Need-class-table-requires
-class-table-requires c κs = search needs
-
-reach-table-requires : tie.Need-reach-table-requires
-reach-table-requires c κs = search needs
-
-sign-index-requires : tie.Need-sign-index-requires
-sign-index-requires c κs = search needs
-
-sign-table-requires : tie.Need-sign-table-requires
-sign-table-requires c κs = search needs
-
-keyword-table-requires : tie.Need-keyword-table-requires
-keyword-table-requires c κs = search needs
+tables-requires : tie.Need-tables-requires
+tables-requires c κs = search needs
 
 barge-limits-requires : tie.Need-barge-limits-requires
 barge-limits-requires c κs = search needs
 
 -- The lines read again.
 
-abbrev state-at : tie.After-keyword-table → tie.After-load-state
+abbrev state-at : tie.After-tables → tie.After-load-state
 state-at c = loaded (tokens-moved (lines-moved c))
 
+cast-t27 : tie.Need-cast-t27
+cast-t27 c = omega (arith, bounds-of (start (state-at (c .before))) .i, part-lines (planned (start (state-at (c .before)))) .0, bounds-of (start (state-at (c .before))) .new)
+
 sub-rewrite-lines : tie.Need-sub-rewrite-lines
-sub-rewrite-lines c = part-lines (planned (start (state-at (c .before .before .before .before .before .before)))) .0
+sub-rewrite-lines c = part-lines (planned (start (state-at (c .before .before)))) .0
 
 part-rewrite-lines-start : tie.Need-part-rewrite-lines-start
-part-rewrite-lines-start c = part-lines (planned (start (state-at (c .before .before .before .before .before .before)))) .0
+part-rewrite-lines-start c = part-lines (planned (start (state-at (c .before .before)))) .0
 
 part-rewrite-lines-end : tie.Need-part-rewrite-lines-end
-part-rewrite-lines-end c = new-le (planned (start (state-at (c .before .before .before .before .before .before))))
+part-rewrite-lines-end c = new-le (planned (start (state-at (c .before .before))))
 
 slice-aggregate-rewrite-lines : tie.Need-slice-aggregate-rewrite-lines
-slice-aggregate-rewrite-lines c = sym (state-at (c .before .before .before .before .before .before .before .before .before .before) .load-state .kept .1 .1 .0)
+slice-aggregate-rewrite-lines c = sym (state-at (c .before .before .before .before .before .before) .load-state .kept .1 .1 .0)
 
 -- the lines read again, as the code has the part of the text and the state, are the planned ones
 part-read : (b : tie.After-barge-limits)
@@ -164,7 +155,7 @@ part-read b =
 
 rewrite-lines-requires : tie.Need-rewrite-lines-requires
 rewrite-lines-requires c κs =
-    let b = c .before .before .before .before .before .before .before .before .before in
+    let b = c .before .before .before .before .before in
     let t = b .before in
     let ml = lines-moved t in
     let mt = tokens-moved ml in
@@ -174,24 +165,12 @@ rewrite-lines-requires c κs =
     let E = s .args .edited .now in
     let base = s .args .p .base in
     let d : l .load-state .result .depth ≡ lineWord (s .args .lines .now) (s .args .p .i) 2 = ap (λ (y : State). y .depth) (l .load-state .ensures .0) in (
-      t .before .before .before .before .class-table .ensures,
+      t .tables .ensures,
       (
-        t .before .before .before .reach-table .ensures,
+        (omega (arith, length-take (s .args .p .new - base) (drop base E), length-drop base E, s .pre .0 .0, pl .base-le), pl .number),
         (
-          t .before .before .sign-index .ensures,
-          (
-            t .before .sign-table .ensures,
-            (
-              t .keyword-table .ensures,
-              (
-                (omega (arith, length-take (s .args .p .new - base) (drop base E), length-drop base E, s .pre .0 .0, pl .base-le), pl .number),
-                (
-                  (omega (arith, d, pl .depth), (l .load-state .ensures .1, l .load-state .kept .1 .1 .0, barge-fits (b .barge-limits .result) (b .barge-limits .ensures) .1)),
-                  (few-from pl (part-read b) (s .pre .1 .1), room-moved pl (part-read b) (ml .move-lines .kept .0) (mt .move-tokens .kept .0) (s .pre .1 .1)),
-                ),
-              ),
-            ),
-          ),
+          (omega (arith, d, pl .depth), (l .load-state .ensures .1, l .load-state .kept .1 .1 .0, barge-fits (b .barge-limits .result) (b .barge-limits .ensures) .1)),
+          (refl, (few-from pl (part-read b) (s .pre .1 .1), room-moved pl (part-read b) (ml .move-lines .kept .0) (mt .move-tokens .kept .0) (s .pre .1 .1))),
         ),
       ),
     )
@@ -202,7 +181,7 @@ abbrev began : tie.After-rewrite-lines → tie.Start
 began c = start (state-at (tabled c))
 
 abbrev widths-at : tie.After-rewrite-lines → List ℕ
-widths-at c = c .rewrite-lines .last .1 .1 .1 .1 .1 .1 .1 .1 .1 .1 .1 .1 .0
+widths-at c = c .rewrite-lines .last .1 .1 .1 .1 .1 .1 .0
 
 -- the state that those lines reach, as the code has it
 reached : (c : tie.After-rewrite-lines) → Reached (plannedLines (began c .args .edited .now) (began c .args .lines .now) (began c .args .p)) (c .rewrite-lines .result) (widths-at c)
@@ -210,16 +189,16 @@ reached c =
     let l = state-at (tabled c) in
     record {
       few = c .rewrite-lines .ensures .0 .1;
-      wide = c .rewrite-lines .kept .1 .1 .1 .1 .1 .1 .1 .1 .1 .1 .1 .1 .0 ∙ l .load-state .kept .1 .1 .0;
+      wide = c .rewrite-lines .kept .1 .1 .1 .1 .1 .1 .0 ∙ l .load-state .kept .1 .1 .0;
       is = subst (λ (r : Reading). Reaches r (stateOf (c .rewrite-lines .result) (widths-at c))) (part-read (limited c)) (c .rewrite-lines .ensures .0 .0);
     }
 
 -- the buffers are as long as they were
-lines-long : (c : tie.After-rewrite-lines) → length (c .rewrite-lines .last .1 .1 .1 .1 .1 .1 .1 .0) ≡ length (began c .args .lines .now)
-lines-long c = c .rewrite-lines .kept .1 .1 .1 .1 .1 .1 .1 .0 ∙ lines-moved (tabled c) .move-lines .kept .0
+lines-long : (c : tie.After-rewrite-lines) → length (c .rewrite-lines .last .1 .1 .0) ≡ length (began c .args .lines .now)
+lines-long c = c .rewrite-lines .kept .1 .1 .0 ∙ lines-moved (tabled c) .move-lines .kept .0
 
-tokens-long : (c : tie.After-rewrite-lines) → length (c .rewrite-lines .last .1 .1 .1 .1 .1 .1 .1 .1 .0) ≡ length (began c .args .tokens .now)
-tokens-long c = c .rewrite-lines .kept .1 .1 .1 .1 .1 .1 .1 .1 .0 ∙ tokens-moved (lines-moved (tabled c)) .move-tokens .kept .0
+tokens-long : (c : tie.After-rewrite-lines) → length (c .rewrite-lines .last .1 .1 .1 .0) ≡ length (began c .args .tokens .now)
+tokens-long c = c .rewrite-lines .kept .1 .1 .1 .0 ∙ tokens-moved (lines-moved (tabled c)) .move-tokens .kept .0
 
 slice-aggregate-put-end : tie.Need-slice-aggregate-put-end
 slice-aggregate-put-end c = search needs
@@ -275,12 +254,9 @@ write-records-spec =
     add-move-lines-3
     cast-move-lines-4
     move-lines-requires
-    class-table-requires
-    reach-table-requires
-    sign-index-requires
-    sign-table-requires
-    keyword-table-requires
+    tables-requires
     barge-limits-requires
+    cast-t27
     sub-rewrite-lines
     part-rewrite-lines-start
     part-rewrite-lines-end

@@ -1,13 +1,13 @@
--- `planning::plan_room` meets its contract.
+-- `plans::plan_room` meets its contract.
 -- Assumes nothing.
 use Prim.Native.Nat.{_*_}
-use mathlib.Core.Path.{_≡_, refl, sym, ap, _∙_}
+use mathlib.Core.Path.{refl}
 use borrow.Author.Tests.{lt-ltb, le-ltb}
 use Rattle.rules.specs.Records.{lineSize, tokenSize}
-use Rattle.planning.specs.Plans.{linesAfter, tokensAfter}
+use Rattle.plans.specs.Plans.{linesAfter, tokensAfter}
 use borrow.Author.Needs.{needs}
-use Rattle.planning.proofs.plan_room.Statement.{statement}
-use Rattle.planning.proofs.plan_room.Tie as tie
+use Rattle.plans.proofs.plan_room.Statement.{statement}
+use Rattle.plans.proofs.plan_room.Tie as tie
 
 add-line-records : tie.Need-add-line-records
 add-line-records c = search needs

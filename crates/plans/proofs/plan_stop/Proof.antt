@@ -1,14 +1,14 @@
--- `planning::plan_stop` meets its contract.
+-- `plans::plan_stop` meets its contract.
 -- Assumes nothing.
-use Prim.Native.Nat.{ℕ, _+_, _*_, _≤_, _<_}
-use mathlib.Core.Path.{_≡_, refl, sym, ap, _∙_}
+use Prim.Native.Nat.{_+_, _*_}
+use mathlib.Core.Path.{refl}
 use native.Mathlib.Omega.{arith}
 use borrow.Author.Tests.{lt-ltb, le-ltb}
 use Rattle.rules.specs.Records.{lineSize}
 use Rattle.records.specs.Words.{lineWord}
 use borrow.Author.Needs.{needs}
-use Rattle.planning.proofs.plan_stop.Statement.{statement}
-use Rattle.planning.proofs.plan_stop.Tie as tie
+use Rattle.plans.proofs.plan_stop.Statement.{statement}
+use Rattle.plans.proofs.plan_stop.Tie as tie
 
 mul-from : tie.Need-mul-from
 mul-from c = search needs

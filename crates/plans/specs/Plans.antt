@@ -1,28 +1,27 @@
 -- What an edit writes: the lines read again, and the tail that is kept.
 -- Assumes nothing.
-use Prim.Native.Nat.{ℕ, _+_, _-_, _*_, _≤_, _<_}
+use Prim.Native.Nat.{ℕ, _+_, _-_, _*_, _≤_}
 use mathlib.Core.Path.{_≡_}
 use mathlib.Core.Bool.{Bool, true, false}
-use mathlib.Core.List.{List, [], _∷_, _++_}
+use mathlib.Core.List.{List, [], _++_}
 use lib.Dec.{ltb}
 use lib.ListN.{length, take, drop}
 use Rattle.rules.specs.Lists.{if_then_else_}
 use Rattle.rules.specs.Line.{State, initial}
-use Rattle.rules.specs.Reading.{linesOf, countLF, Entry, Reading, reads, halts, readFrom, byteSum, tokenSum}
+use Rattle.rules.specs.Reading.{linesOf, Entry, Reading, reads, halts, readFrom, byteSum, tokenSum}
 use Rattle.rules.specs.Limits.{maxLevels, bargeLine, LimitNumber}
 use Rattle.rules.specs.Replies.{Refusal, reading, short, unfit, linesBuffer, tokensBuffer}
 use Rattle.rules.specs.Records.{lineSize, tokenSize, withEnd, readLines, Behind}
-use Rattle.rules.specs.Page.{Page, fits, pageText, pageRecords, Faithful}
+use Rattle.rules.specs.Page.{Page, pageText, pageRecords, Faithful}
 use Rattle.rules.specs.StopRule.{Edit, edited, rereadCount}
-use Rattle.rules.specs.Edit.{Outcome, late, stored}
+use Rattle.rules.specs.Edit.{late, stored}
 use Rattle.refusals.specs.Unreads.{unreadOf}
 use Rattle.refusals.specs.declared.Unread.{Unread}
 use Rattle.refusals.specs.declared.Unread.the-variants.{TooLong, Malformed, Fails, AtLine}
 use Rattle.records.specs.Words.{lineWord, stateFrom}
-use Rattle.planning.specs.Starts.{isUsable}
-use Rattle.planning.specs.declared.Plan.{Plan}
-use Rattle.planning.specs.declared.PlanAnswer.{PlanAnswer}
-use Rattle.planning.specs.declared.PlanAnswer.the-variants.{Writes, Refused, ShortLines, ShortTokens, Unfit}
+use Rattle.plans.specs.declared.Plan.{Plan}
+use Rattle.plans.specs.declared.PlanAnswer.{PlanAnswer}
+use Rattle.plans.specs.declared.PlanAnswer.the-variants.{Writes, Refused, ShortLines, ShortTokens, Unfit}
 
 -- The numbers of records afterwards.
 
@@ -40,15 +39,6 @@ roomed p m k lines tokens =
     else if ltb lines (lineSize * linesAfter p m) then ShortLines (lineSize * linesAfter p m)
     else if ltb tokens (tokenSize * tokensAfter p k) then ShortTokens (tokenSize * tokensAfter p k)
     else Writes p
-
--- The line where reading again begins, for an edit from byte a on; m + 1 where no faithful page has such a header or such a record.
-abbrev pub beginLine : (text lines : List ℕ) (m k a : ℕ) → ℕ
-beginLine text lines m k a =
-    if ltb 1_048_576 m then m + 1
-    else if ltb 2_097_152 k then m + 1
-    else if ltb m (countLF (take a text)) then m + 1
-    else if isUsable lines (countLF (take a text)) k a then countLF (take a text)
-    else m + 1
 
 -- The plan at a stop after c lines, t tokens and q bytes, at the old line j.
 abbrev pub stopPlan : (lines : List ℕ) (i base c t q j : ℕ) → Plan
