@@ -11,7 +11,7 @@ use lib.ListN.{length, take, drop, length-drop, drop-of-length-le, replicate}
 use lib.Seq.{take-all, take-nil}
 use types.Run.{OneOf}
 use denote.Enum.Declared.{tagOf}
-use Rattle.page.proofs.EditAnswer.{the-type}
+use Rattle.editing.proofs.EditAnswer.{the-type}
 use Rattle.laws.specs.Blocks.{table}
 use Rattle.rules.specs.Lists.{overwrite}
 use Rattle.rules.specs.Limits.{maxBytes, barge, bargeLine}
@@ -24,11 +24,11 @@ use Rattle.rules.specs.History.{Chain, none, call, Holds, Agrees, paperText}
 use Rattle.rules.proofs.BoundLaws.{Small, fresh-small}
 use Rattle.rules.proofs.PageLaws.{unread-kept, fresh-inverse}
 use Rattle.refusals.specs.Unreads.{unreadOf}
-use Rattle.page.specs.Answers.{editNumbers, lent, lentAfter}
-use Rattle.page.specs.declared.EditAnswer.{EditAnswer}
-use Rattle.page.specs.declared.EditAnswer.the-variants.{Edited, Refused, ShortText, ShortSpare, ShortLines, ShortTokens, Outside, Unfit}
-use Rattle.page.proofs.FreshPages.{fresh-long, fresh-post}
-use Rattle.page.proofs.PageHistory.{history}
+use Rattle.editing.specs.Answers.{editNumbers, lent, lentAfter}
+use Rattle.editing.specs.declared.EditAnswer.{EditAnswer}
+use Rattle.editing.specs.declared.EditAnswer.the-variants.{Edited, Refused, ShortText, ShortSpare, ShortLines, ShortTokens, Outside, Unfit}
+use Rattle.fresh_page.proofs.FreshPages.{fresh-long}
+use Rattle.page.proofs.PageHistory.{fresh-post, history}
 use Rattle.planning.proofs.Plans.{short-text}
 use Rattle.history.specs.Lists.{editAt, editsOf, lastReply, SmallAnswer, Happened}
 

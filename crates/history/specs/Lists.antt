@@ -9,9 +9,9 @@ use mathlib.Core.Path.{_≡_}
 use Rattle.rules.specs.Page.{Lent, sizes, freshLent}
 use Rattle.rules.specs.StopRule.{Edit}
 use Rattle.rules.specs.History.{Agrees}
-use Rattle.planning.specs.Plans.{editOf}
-use Rattle.page.specs.declared.EditAnswer.{EditAnswer}
-use Rattle.page.specs.declared.EditAnswer.the-variants.{Edited, Refused, ShortText, ShortSpare, ShortLines, ShortTokens, Outside, Unfit}
+use Rattle.plans.specs.Plans.{editOf}
+use Rattle.editing.specs.declared.EditAnswer.{EditAnswer}
+use Rattle.editing.specs.declared.EditAnswer.the-variants.{Edited, Refused, ShortText, ShortSpare, ShortLines, ShortTokens, Outside, Unfit}
 
 -- edit i of a list with four numbers for each: a, b, and the range of the lent bytes that is w
 abbrev pub editAt : (edits bytes : List ℕ) → (i : ℕ) → Edit

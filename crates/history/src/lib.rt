@@ -7,7 +7,7 @@ ghost use Rattle.rules.specs.Replies.{Reply};
 ghost use Rattle.rules.specs.Records.{lineSize, header};
 ghost use Rattle.rules.specs.Page.{headerAfter, freshReply};
 ghost use Rattle.rules.specs.Edit.{EditPost};
-ghost use Rattle.page.specs.Answers.{editNumbers, lent, lentAfter};
+ghost use Rattle.editing.specs.Answers.{editNumbers, lent, lentAfter};
 ghost use Rattle.history.specs.Lists.{editAt, editsOf, lastReply, SmallAnswer, Happened};
 
 // A header, and the answer of the last edit.
@@ -15,7 +15,7 @@ pub struct Outcome {
     pub n: u32,
     pub m: u32,
     pub k: u32,
-    pub last: page::EditAnswer,
+    pub last: editing::EditAnswer,
 }
 
 // The lesser of two numbers.
@@ -26,6 +26,32 @@ fn lesser(x: usize, y: usize) -> usize
         return x;
     }
     y
+}
+
+// An edit of a list: the range that it replaces, and the part of the lent bytes that it puts in.
+struct Listed {
+    a: usize,
+    b: usize,
+    start: usize,
+    end: usize,
+}
+
+// The numbers of edit i, where `size` bytes are lent.
+fn listed_at(edits: &[usize], size: usize, i: usize) -> Listed
+    requires { ⌜ 4 * i + 4 ≤ length (now edits) ⌝ }
+    ensures { λ r. ⌜ (r .a ≡ getD (now (edits .entry)) (4 * i) 0) × (r .b ≡ getD (now (edits .entry)) (4 * i + 1) 0) ⌝ }
+    ensures { λ r. ⌜ r .end ≡ min (getD (now (edits .entry)) (4 * i + 3) 0) size ⌝ }
+    ensures { λ r. ⌜ r .start ≡ min (getD (now (edits .entry)) (4 * i + 2) 0) (r .end) ⌝ }
+{
+    let at = 4 * i;
+    let end = lesser(edits[at + 3], size);
+    let start = lesser(edits[at + 2], end);
+    Listed {
+        a: edits[at],
+        b: edits[at + 1],
+        start,
+        end,
+    }
 }
 
 // Edit i of a list of edits.
@@ -40,13 +66,13 @@ fn edit_at(
     edits: &[usize],
     bytes: &[u8],
     i: usize,
-) -> page::EditAnswer
+) -> editing::EditAnswer
     requires { ⌜ 4 * i + 4 ≤ length (now edits) ⌝ }
     ensures { λ r. ⌜ EditPost (lent (header n m k) (now (text .entry)) (now (spare .entry)) (now (lines .entry)) (now (tokens .entry))) (editAt (now (edits .entry)) (now (bytes .entry)) i) (editNumbers r) (lentAfter (header n m k) (editNumbers r) (now (text .exit)) (now (spare .exit)) (now (lines .exit)) (now (tokens .exit))) ⌝ }
 {
-    let at = 4 * i;
-    let end = lesser(edits[at + 3], bytes.len());
-    let start = lesser(edits[at + 2], end);
+    let e = listed_at(edits, bytes.len(), i);
+    let start = e.start;
+    let end = e.end;
     page::edit(
         n,
         m,
@@ -55,19 +81,19 @@ fn edit_at(
         spare,
         lines,
         tokens,
-        edits[at],
-        edits[at + 1],
+        e.a,
+        e.b,
         &bytes[start..end],
     )
 }
 
 // The header after an answer.
-fn header_after(n: u32, m: u32, k: u32, last: page::EditAnswer) -> Outcome
+fn header_after(n: u32, m: u32, k: u32, last: editing::EditAnswer) -> Outcome
     requires { ⌜ SmallAnswer last ⌝ }
     ensures { λ r. ⌜ (header (r .n) (r .m) (r .k) ≡ headerAfter (header n m k) (editNumbers last)) × (r .last ≡ last) ⌝ }
 {
     match last {
-        page::EditAnswer::Edited(bytes, lines, tokens, _) => Outcome {
+        editing::EditAnswer::Edited(bytes, lines, tokens, _) => Outcome {
             n: bytes as u32,
             m: lines as u32,
             k: tokens as u32,
@@ -94,9 +120,9 @@ pub fn apply_edits(
     ensures { λ r. ⌜ (lineSize ≤ length (now (lines .entry)) → Happened (lent (header 0 0 0) (now (text .entry)) (now (spare .entry)) (now (lines .entry)) (now (tokens .entry))) (editsOf (now (edits .entry)) (now (bytes .entry)) (length (now (edits .entry)) / 4)) (editNumbers (r .last)) (lent (header (r .n) (r .m) (r .k)) (now (text .exit)) (now (spare .exit)) (now (lines .exit)) (now (tokens .exit)))) ⌝ }
     ensures { λ r. ⌜ (length (now (lines .entry)) < lineSize → (editNumbers (r .last) ≡ freshReply (length (now (lines .entry)))) × (lent (header (r .n) (r .m) (r .k)) (now (text .exit)) (now (spare .exit)) (now (lines .exit)) (now (tokens .exit)) ≡ lent (header 0 0 0) (now (text .entry)) (now (spare .entry)) (now (lines .entry)) (now (tokens .entry)))) ⌝ }
 {
-    let _ = page::fresh(lines);
+    let _ = fresh_page::fresh(lines);
     if lines.len() < records::LINE {
-        let short = page::EditAnswer::ShortLines(records::LINE);
+        let short = editing::EditAnswer::ShortLines(records::LINE);
         return Outcome {
             n: 0,
             m: 0,
@@ -105,7 +131,7 @@ pub fn apply_edits(
         };
     }
     let count = edits.len() / 4;
-    let none = page::EditAnswer::Edited(0, 0, 0, 0);
+    let none = editing::EditAnswer::Edited(0, 0, 0, 0);
     let mut o = Outcome {
         n: 0,
         m: 0,

@@ -1,4 +1,1 @@
-pub mod FreshPages
-pub mod Mended
-pub mod Edits
 pub mod PageHistory

@@ -7,14 +7,22 @@ use mathlib.Core.List.{List, [], _∷_}
 use lib.ListN.{length}
 use Rattle.rules.specs.Replies.{Reply, accepted, isRefused}
 use Rattle.rules.specs.Records.{lineSize, Header}
-use Rattle.rules.specs.Page.{sizes, freshReply, freshLines}
+use Rattle.rules.specs.Page.{sizes, headerAfter, freshReply, freshLines, FreshPost}
 use Rattle.rules.specs.Read.{readInto}
 use Rattle.rules.specs.History.{Demand3From}
 use Rattle.rules.specs.Use.{Begins, ReadPost, StepsFrom}
 use Rattle.rules.proofs.HistoryLaws.{fresh-holds, demand-3}
 use Rattle.rules.proofs.UseLaws.{read-holds, demand-3-read, list-of-steps}
-use Rattle.page.specs.Answers.{lent, lentAfter}
-use Rattle.page.proofs.FreshPages.{fresh-post}
+use Rattle.editing.specs.Answers.{lent, lentAfter}
+
+-- what the call ensures is the contract of the fresh page
+pub fresh-post : (h : Header) (text spare lines tokens lines′ : List ℕ) (reply : Reply) → reply ≡ freshReply (length lines) → lines′ ≡ freshLines lines
+    → FreshPost (lent h text spare lines tokens) reply (lentAfter h reply text spare lines′ tokens)
+fresh-post h text spare lines tokens lines′ reply er el =
+    record {
+      reply-is = er;
+      lent-is = λ i. record { page = record { head = headerAfter h (er i); text = text; lines = el i; tokens = tokens }; spare = spare };
+    }
 
 -- after a call of `fresh` with long enough line words, every list of calls of `edit`, each on what the last one left
 module _ (h : Header) (text spare lines tokens lines′ : List ℕ) (reply : Reply) (er : reply ≡ freshReply (length lines)) (el : lines′ ≡ freshLines lines)

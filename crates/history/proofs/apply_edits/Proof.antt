@@ -8,9 +8,9 @@ use lib.ListN.{length}
 use borrow.Author.Needs.{needs}
 use Rattle.rules.specs.Records.{Header, header}
 use Rattle.rules.specs.Page.{Lent, headerAfter}
-use Rattle.page.specs.Answers.{editNumbers, lent, lentAfter}
-use Rattle.page.specs.declared.EditAnswer.{EditAnswer}
-use Rattle.page.proofs.FreshPages.{fresh-short}
+use Rattle.editing.specs.Answers.{editNumbers, lent, lentAfter}
+use Rattle.editing.specs.declared.EditAnswer.{EditAnswer}
+use Rattle.fresh_page.proofs.FreshPages.{fresh-short}
 use Rattle.history.specs.Lists.{editsOf, Happened}
 use Rattle.history.proofs.Lists.{SoFar, none-yet, one-more, happened, small-last}
 use Rattle.history.proofs.apply_edits.Statement.{statement}

@@ -1,59 +1,21 @@
 -- `history::edit_at` meets its contract.
 -- Assumes nothing.
-use Prim.Native.Nat.{ℕ, _+_, _-_, _*_, _≤_, _<_}
-use mathlib.Core.Path.{_≡_, refl, sym, ap, subst, _∙_}
-use mathlib.Core.List.{List}
-use lib.ListN.{length, getD, take, drop}
+use Prim.Native.Nat.{ℕ, _+_, _-_, _*_}
+use mathlib.Core.Path.{_≡_, subst}
+use lib.ListN.{getD, take, drop}
 use Rattle.rules.specs.Records.{header}
+use Rattle.rules.specs.StopRule.{Edit}
 use Rattle.rules.specs.Edit.{EditPost}
-use Rattle.planning.specs.Plans.{editOf}
-use Rattle.page.specs.Answers.{editNumbers, lent, lentAfter}
+use Rattle.plans.specs.Plans.{editOf}
+use Rattle.editing.specs.Answers.{editNumbers, lent, lentAfter}
+use Rattle.history.specs.Lists.{editAt}
 use Rattle.history.proofs.Lists.{clipped}
 use borrow.Author.Needs.{needs}
 use Rattle.history.proofs.edit_at.Statement.{statement}
 use Rattle.history.proofs.edit_at.Tie as tie
 
-mul-at : tie.Need-mul-at
-mul-at c = search needs
-
-add-lesser : tie.Need-add-lesser
-add-lesser c = search needs
-
-mul-lesser : tie.Need-mul-lesser
-mul-lesser c = search needs
-
-shared-slice-read-lesser : tie.Need-shared-slice-read-lesser
-shared-slice-read-lesser c = search needs
-
-lesser-requires : tie.Need-lesser-requires
-lesser-requires c κs = search needs
-
-add-lesser-2 : tie.Need-add-lesser-2
-add-lesser-2 c = search needs
-
-mul-lesser-2 : tie.Need-mul-lesser-2
-mul-lesser-2 c = search needs
-
-shared-slice-read-lesser-2 : tie.Need-shared-slice-read-lesser-2
-shared-slice-read-lesser-2 c = search needs
-
-lesser-requires-2 : tie.Need-lesser-requires-2
-lesser-requires-2 c κs = search needs
-
-mul-edit : tie.Need-mul-edit
-mul-edit c = search needs
-
-shared-slice-read-edit : tie.Need-shared-slice-read-edit
-shared-slice-read-edit c = search needs
-
-add-edit : tie.Need-add-edit
-add-edit c = search needs
-
-mul-edit-2 : tie.Need-mul-edit-2
-mul-edit-2 c = search needs
-
-shared-slice-read-edit-2 : tie.Need-shared-slice-read-edit-2
-shared-slice-read-edit-2 c = search needs
+listed-at-requires : tie.Need-listed-at-requires
+listed-at-requires c κs = search needs
 
 sub-edit : tie.Need-sub-edit
 sub-edit c = search needs
@@ -79,35 +41,34 @@ same-length-3 c = search needs
 same-length-4 : tie.Need-same-length-4
 same-length-4 c = search needs
 
+-- Places behind others: the numbers of the edit, and what the function was called with.
+
+abbrev listed : tie.After-edit → tie.After-listed-at
+listed c = c .before .before .before .before .before .before
+
+abbrev start : tie.After-listed-at → tie.Start
+start c = c .before .before .before .before .before .before .before
+
 returns : tie.Need-returns
 returns c =
-    let edit = c .before .before .before .before .before .before .before .before .edit in
-    let lesser = c .before .before .before .before .before .before .before .before .before .before .before .before .before .before .before .before .before .before .lesser in
-    let lesser2 = c .before .before .before .before .before .before .before .before .before .before .before .before .before .before .before .before .lesser2 in
-    let a = c .before .before .before .before .before .before .before .before .before .before .before .before .before .before .before .before .before .before .before .before .before .before .before .before .before .before .args in
+    let edit = c .before .before .before .before .before .before .before .before in
+    let a = start (listed edit) .args in
+    let r = listed edit .listed-at .result in
+    let numbers = listed edit .listed-at .ensures in
     let e = a .edits .now in
-    let w = clipped (a .bytes .now) (getD e (4 * a .i + 2) 0) (getD e (4 * a .i + 3) 0) (lesser .result) (lesser2 .result) (lesser .ensures) (lesser2 .ensures) in
-    subst (λ (x : List ℕ). EditPost (lent (header (a .n) (a .m) (a .k)) (a .text .now) (a .spare .now) (a .lines .now) (a .tokens .now)) (editOf (getD e (4 * a .i) 0) (getD e (4 * a .i + 1) 0) x) (editNumbers (edit .result))
-    (lentAfter (header (a .n) (a .m) (a .k)) (editNumbers (edit .result)) (edit .last .1 .1 .1 .0) (edit .last .1 .1 .1 .1 .0) (edit .last .1 .1 .1 .1 .1 .0) (edit .last .1 .1 .1 .1 .1 .1 .0))) w (edit .ensures)
+    let part = clipped (a .bytes .now) (getD e (4 * a .i + 2) 0) (getD e (4 * a .i + 3) 0) (r .end) (r .start) (numbers .1 .0) (numbers .1 .1) in
+    let is : editOf (r .a) (r .b) (take (r .end - r .start) (drop (r .start) (a .bytes .now))) ≡ editAt e (a .bytes .now) (a .i) =
+    λ x. editOf (numbers .0 .0 x) (numbers .0 .1 x) (part x) in
+    let reply = editNumbers (edit .edit .result) in
+    let last = edit .edit .last .1 .1 .1 in
+    subst (λ (ed : Edit). EditPost (lent (header (a .n) (a .m) (a .k)) (a .text .now) (a .spare .now) (a .lines .now) (a .tokens .now)) ed reply
+    (lentAfter (header (a .n) (a .m) (a .k)) reply (last .0) (last .1 .0) (last .1 .1 .0) (last .1 .1 .1 .0))) is (edit .edit .ensures)
 
 pub edit-at-spec : {M : Type 1} → statement M
 edit-at-spec =
     tie.close
     (tie.spec
-    mul-at
-    add-lesser
-    mul-lesser
-    shared-slice-read-lesser
-    lesser-requires
-    add-lesser-2
-    mul-lesser-2
-    shared-slice-read-lesser-2
-    lesser-requires-2
-    mul-edit
-    shared-slice-read-edit
-    add-edit
-    mul-edit-2
-    shared-slice-read-edit-2
+    listed-at-requires
     sub-edit
     part-edit-start
     part-edit-end

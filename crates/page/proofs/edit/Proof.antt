@@ -11,10 +11,10 @@ use Rattle.rules.specs.Records.{header}
 use Rattle.rules.specs.Page.{Lent, fits, pageText}
 use Rattle.rules.specs.StopRule.{Edit, edited}
 use Rattle.refusals.proofs.Barge.{barge-fits}
-use Rattle.planning.specs.Plans.{editOf}
-use Rattle.page.specs.Answers.{lent}
+use Rattle.plans.specs.Plans.{editOf}
+use Rattle.editing.specs.Answers.{lent}
 use Rattle.header.proofs.Fitting.{fits-by}
-use Rattle.page.proofs.Edits.{Ranged, settled, unfit-edit, order-edit, past-edit, size-is, long-edit, text-edit, spare-edit}
+use Rattle.editing.proofs.Edits.{Ranged, settled, unfit-edit, order-edit, past-edit, size-is, long-edit, text-edit, spare-edit}
 use borrow.Author.Needs.{needs}
 use Rattle.page.proofs.edit.Statement.{statement}
 use Rattle.page.proofs.edit.Tie as tie

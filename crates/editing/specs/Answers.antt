@@ -1,19 +1,17 @@
--- The answers of the fresh page and of an edit, in the document's numbers and values, and what is lent before and after.
+-- The answers of an edit, in the document's numbers and values, and what is lent before and after.
 -- Assumes nothing.
-use Prim.Native.Nat.{ℕ}
+use Prim.Native.Nat.{ℕ, _-_}
 use mathlib.Core.List.{List, [], _∷_}
 use Rattle.rules.specs.Replies.{Reply, numberedUnread, textBuffer, spareBuffer, linesBuffer, tokensBuffer}
 use Rattle.rules.specs.Records.{Header, header}
 use Rattle.rules.specs.Page.{Lent, headerAfter}
 use Rattle.refusals.specs.Unreads.{unreadOf}
-use Rattle.page.specs.declared.FreshAnswer.{FreshAnswer}
-use Rattle.page.specs.declared.FreshAnswer.the-variants as fresh-variants
-use Rattle.page.specs.declared.EditAnswer.{EditAnswer}
-use Rattle.page.specs.declared.EditAnswer.the-variants.{Edited, Refused, ShortText, ShortSpare, ShortLines, ShortTokens, Outside, Unfit}
-
-abbrev pub freshNumbers : FreshAnswer → Reply
-freshNumbers fresh-variants.Fresh = 0 ∷ 0 ∷ 0 ∷ 0 ∷ []
-freshNumbers (fresh-variants.ShortLines n) = 5 ∷ linesBuffer ∷ n ∷ []
+use Rattle.plans.specs.Plans.{linesAfter, tokensAfter}
+use Rattle.plans.specs.declared.Plan.{Plan}
+use Rattle.plans.specs.declared.PlanAnswer.{PlanAnswer}
+use Rattle.plans.specs.declared.PlanAnswer.the-variants as planned
+use Rattle.editing.specs.declared.EditAnswer.{EditAnswer}
+use Rattle.editing.specs.declared.EditAnswer.the-variants.{Edited, Refused, ShortText, ShortSpare, ShortLines, ShortTokens, Outside, Unfit}
 
 abbrev pub editNumbers : EditAnswer → Reply
 editNumbers (Edited n m k count) = 0 ∷ n ∷ m ∷ k ∷ count ∷ []
@@ -24,6 +22,18 @@ editNumbers (ShortLines n) = 5 ∷ linesBuffer ∷ n ∷ []
 editNumbers (ShortTokens n) = 5 ∷ tokensBuffer ∷ n ∷ []
 editNumbers Outside = 6 ∷ []
 editNumbers Unfit = 7 ∷ []
+
+-- the answer of an edit of `size` bytes that is written by a plan, for a page of m lines and k tokens
+abbrev pub answerBy : (size m k : ℕ) → Plan → EditAnswer
+answerBy size m k p = Edited size (linesAfter p m - 1) (tokensAfter p k) (p .count)
+
+-- what an edit answers where its plan is refused; a plan is no refusal
+abbrev pub refusalBy : PlanAnswer → EditAnswer
+refusalBy (planned.Writes p) = Unfit
+refusalBy (planned.Refused u) = Refused u
+refusalBy (planned.ShortLines least) = ShortLines least
+refusalBy (planned.ShortTokens least) = ShortTokens least
+refusalBy planned.Unfit = Unfit
 
 -- a header and the buffers
 abbrev pub lent : Header → (text spare lines tokens : List ℕ) → Lent

@@ -4,10 +4,13 @@ use Prim.Native.Nat.{ℕ, _+_, _-_, _*_, _≤_, _<_, min}
 use mathlib.Core.Path.{_≡_, sym, ap, subst, _∙_}
 use mathlib.Core.Bool.{true, false, false≢true}
 use mathlib.Core.List.{List, [], _∷_, _++_}
+use mathlib.Core.Logic.{⊎-elim}
 use mathlib.Core.Option.{none, some}
 use native.Mathlib.Omega.{arith}
 use lib.ListN.{length, take, drop, length-append}
 use lib.Seq.{sets, length-take-le, take-take, take-at}
+use types.Run.{OneOf}
+use denote.Enum.Declared.{tagOf}
 use borrow.Author.Tests.{lt-ltb, le-ltb}
 use Rattle.rules.specs.Lists.{overwrite}
 use Rattle.rules.specs.Reading.{linesOf, Reading, byteSum, tokenSum}
@@ -34,19 +37,20 @@ use Rattle.refusals.specs.declared.TextTest.{TextTest}
 use Rattle.refusals.specs.declared.TextTest.the-variants as tests
 use Rattle.refusals.proofs.Tests.{Tested, tested, test-passes}
 use Rattle.moving.specs.Moved.{movedLines, movedTokens}
-use Rattle.moving.proofs.Joins.{run-over, back-over}
+use Rattle.copies.proofs.Joins.{run-over, back-over}
 use Rattle.moving.proofs.Shifts.{length-movedLines, length-movedTokens}
-use Rattle.planning.specs.Plans.{linesAfter, tokensAfter, Planned, Roomy, Mends, LineRefusal, OnPaper, PlanIs}
-use Rattle.planning.specs.declared.Plan.{Plan}
-use Rattle.planning.specs.declared.PlanAnswer.{PlanAnswer}
-use Rattle.planning.specs.declared.PlanAnswer.the-variants as plan
+use Rattle.plans.specs.Plans.{linesAfter, tokensAfter, Planned, Roomy, Mends, LineRefusal, OnPaper, PlanIs}
+use Rattle.plans.specs.declared.Plan.{Plan}
+use Rattle.plans.specs.declared.PlanAnswer.{PlanAnswer}
+use Rattle.plans.specs.declared.PlanAnswer.the-variants as plan
+use Rattle.plans.proofs.PlanAnswer as planned
 use Rattle.writing.proofs.Writes.{written-sizes}
 use Rattle.writing.specs.Writes.{written, lineTail, tokenTail, writtenLines, writtenTokens}
-use Rattle.page.specs.Answers.{editNumbers, lent, lentAfter}
-use Rattle.page.specs.declared.EditAnswer.{EditAnswer}
-use Rattle.page.specs.declared.EditAnswer.the-variants as answer
-use Rattle.page.specs.declared.EditAnswer.the-variants.{Edited, ShortText, ShortSpare, ShortLines, ShortTokens, Outside, Unfit}
-use Rattle.page.proofs.Mended.{line-words, token-words}
+use Rattle.editing.specs.Answers.{editNumbers, refusalBy, lent, lentAfter}
+use Rattle.editing.specs.declared.EditAnswer.{EditAnswer}
+use Rattle.editing.specs.declared.EditAnswer.the-variants as answer
+use Rattle.editing.specs.declared.EditAnswer.the-variants.{Edited, ShortText, ShortSpare, ShortLines, ShortTokens, Outside, Unfit}
+use Rattle.editing.proofs.Mended.{line-words, token-words}
 
 -- what an edit answers, and the buffers afterwards
 abbrev pub Answered : Lent → Edit → EditAnswer → (text spare lines tokens : List ℕ) → Type 0
@@ -55,14 +59,6 @@ Answered q ed r text spare lines tokens = EditPost q ed (editNumbers r) (lentAft
 -- a refusal: the page is as it was
 abbrev pub Refused : Lent → Edit → EditAnswer → (spare : List ℕ) → Type 0
 Refused q ed r spare = Answered q ed r (q .page .text) spare (q .page .lines) (q .page .tokens)
-
--- what a plan's refusal makes of an edit
-abbrev pub RefusedAs : Lent → Edit → (spare : List ℕ) → PlanAnswer → Type 0
-RefusedAs q ed s (plan.Writes p) = Unit {0}
-RefusedAs q ed s (plan.Refused x) = Refused q ed (answer.Refused x) s
-RefusedAs q ed s (plan.ShortLines least) = Refused q ed (ShortLines least) s
-RefusedAs q ed s (plan.ShortTokens least) = Refused q ed (ShortTokens least) s
-RefusedAs q ed s plan.Unfit = Refused q ed Unfit s
 
 -- a page that fits, and a proper range of it
 pub record Ranged (q : Lent) (ed : Edit) : Type 0 where
@@ -228,13 +224,13 @@ module _ (q : Lent) (ed : Edit) where
       free-line (Fails f) k = failure (recordOf f)
       free-line (AtLine number l) k = limit number l k
 
-      pub refused-edit : (r : PlanAnswer) → PlanIs pg ed r → RefusedAs q ed s r
+      pub refused-edit : (r : PlanAnswer) → PlanIs pg ed r → OneOf (1 ∷ 2 ∷ 3 ∷ 4 ∷ []) (tagOf planned.the-type r) → Refused q ed (refusalBy r) s
       unfolding replyOf numbered headerAfter
-      refused-edit (plan.Writes p) v = tt
-      refused-edit (plan.Refused x) v = unread-edit x s (late-edit (reading (unreadOf x)) (free-line x (v .0)) (v .1))
-      refused-edit (plan.ShortLines least) v = late-edit (short linesBuffer least) (fewLines least) v
-      refused-edit (plan.ShortTokens least) v = late-edit (short tokensBuffer least) (fewTokens least) v
-      refused-edit plan.Unfit v = late-edit unfit stale v
+      refused-edit (plan.Writes p) v k = absurd (⊎-elim (λ h. omega arith) (⊎-elim (λ h. omega arith) (⊎-elim (λ h. omega arith) (λ h. omega arith))) k)
+      refused-edit (plan.Refused x) v k = unread-edit x s (late-edit (reading (unreadOf x)) (free-line x (v .0)) (v .1))
+      refused-edit (plan.ShortLines least) v k = late-edit (short linesBuffer least) (fewLines least) v
+      refused-edit (plan.ShortTokens least) v k = late-edit (short tokensBuffer least) (fewTokens least) v
+      refused-edit plan.Unfit v k = late-edit unfit stale v
 
       -- An acceptance.
       module _ {p : Plan} (v : PlanIs pg ed (plan.Writes p)) where

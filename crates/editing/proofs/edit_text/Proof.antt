@@ -1,4 +1,4 @@
--- `page::edit_text` meets its contract.
+-- `editing::edit_text` meets its contract.
 -- Assumes nothing.
 use Prim.Native.Nat.{ℕ}
 use mathlib.Core.Path.{_≡_, sym, ap, subst, _∙_}
@@ -12,14 +12,15 @@ use Rattle.rules.specs.StopRule.{Edit, edited}
 use Rattle.rules.proofs.PageLaws.{fits-true}
 use Rattle.refusals.specs.Unreads.{testOf}
 use Rattle.refusals.specs.declared.TextTest.{TextTest}
-use Rattle.refusals.specs.declared.TextTest.the-variants.{Passes, Refused}
-use Rattle.planning.specs.Plans.{editOf, Planned, PlanIs}
-use Rattle.planning.specs.declared.PlanAnswer.{PlanAnswer}
-use Rattle.page.specs.Answers.{lent}
-use Rattle.page.proofs.Edits.{Ranged, Spliced, RefusedAs, size-is, held, holds, form-edit, refused-edit, accept-edit}
+use Rattle.refusals.specs.declared.TextTest.the-variants as tests
+use Rattle.plans.specs.Plans.{editOf, Planned, PlanIs}
+use Rattle.plans.specs.declared.PlanAnswer.{PlanAnswer}
+use Rattle.editing.specs.Answers.{lent}
+use Rattle.editing.specs.declared.EditAnswer.{EditAnswer}
+use Rattle.editing.proofs.Edits.{Refused, Ranged, Spliced, size-is, held, holds, form-edit, refused-edit, accept-edit}
 use borrow.Author.Needs.{needs}
-use Rattle.page.proofs.edit_text.Statement.{statement}
-use Rattle.page.proofs.edit_text.Tie as tie
+use Rattle.editing.proofs.edit_text.Statement.{statement}
+use Rattle.editing.proofs.edit_text.Tie as tie
 
 -- What is lent, and the edit.
 
@@ -100,7 +101,7 @@ returns : tie.Need-returns
 returns c =
     let x = c .before .before .before in
     let u = c .before .u .given .0 .0 in
-    form-edit _ _ (spliced (splice-of x)) u (test-is x (Refused u) (c .before .u .given .1))
+    form-edit _ _ (spliced (splice-of x)) u (test-is x (tests.Refused u) (c .before .u .given .1))
 
 enum-told : tie.Need-enum-told
 enum-told c = search needs
@@ -125,8 +126,8 @@ formed c = c .before .before .before .before .before
 abbrev splice-at : tie.After-plan-edit → tie.After-splice
 splice-at c = splice-of (formed c .before .before)
 
-passed : (c : tie.After-plan-edit) → testOf barge (text-of (formed c .before .before)) ≡ Passes
-passed c = test-is (formed c .before .before) Passes (formed c .enum-told .given .1)
+passed : (c : tie.After-plan-edit) → testOf barge (text-of (formed c .before .before)) ≡ tests.Passes
+passed c = test-is (formed c .before .before) tests.Passes (formed c .enum-told .given .1)
 
 abbrev start-of : tie.After-plan-edit → tie.Start
 start-of c = start (splice-at c)
@@ -134,35 +135,22 @@ start-of c = start (splice-at c)
 planned : (c : tie.After-plan-edit) {r : PlanAnswer} → c .plan-edit .result ≡ r → PlanIs (lent-at (start-of c) .page) (edit-at (start-of c)) r
 planned c e = subst (PlanIs (lent-at (start-of c) .page) (edit-at (start-of c))) e (c .plan-edit .ensures)
 
--- a refusal of the plan is one of the edit
-refused : (c : tie.After-plan-edit) {r : PlanAnswer} → c .plan-edit .result ≡ r → RefusedAs (lent-at (start-of c)) (edit-at (start-of c)) (spare-at (splice-at c)) r
-refused c {r} e = refused-edit _ _ (spliced (splice-at c)) (passed c) r (planned c e)
-
-enum-known-p : tie.Need-enum-known-p
-enum-known-p c = search needs
+enum-known-planned : tie.Need-enum-known-planned
+enum-known-planned c = search needs
 
 write-edit-requires : tie.Need-write-edit-requires
 write-edit-requires c κs =
     let x = c .before .before .before .before .before .before .before in
     let s = start-of x in
-    let m = c .before .before .before .before .before .p in
+    let m = c .before .before .before .before .before .planned in
     let v = planned x (m .given .1) in
     let F = fits-true (lent-at s .page) (s .pre .0) in (
       (omega (arith, holds _ _ (spliced (splice-at x))), (s .pre .1 .1 .1 .0, (omega (arith, splice-at x .splice .kept .1 .0, s .pre .1 .1 .1 .1), s .pre .1 .1 .0))),
       ((F .lines, F .tokens), (subst (λ (u : List ℕ). Planned u (s .args .lines .now) (s .args .m) (s .args .k) (m .given .0 .0)) (sym (edited-at (splice-at x))) (v .0), v .1 .0)),
     )
 
-enum-known-u-2 : tie.Need-enum-known-u-2
-enum-known-u-2 c = search needs
-
-enum-known-least : tie.Need-enum-known-least
-enum-known-least c = search needs
-
-enum-known-least-2 : tie.Need-enum-known-least-2
-enum-known-least-2 c = search needs
-
-enum-told-2 : tie.Need-enum-told-2
-enum-told-2 c = search needs
+refusal-of-requires : tie.Need-refusal-of-requires
+refusal-of-requires c κs = search needs
 
 same-length-3 : tie.Need-same-length-3
 same-length-3 c = search needs
@@ -181,7 +169,7 @@ returns-2 c =
     let w = c .before .before .before .before .before .before .write-edit in
     let x = c .before .before .before .before .before .before .before .before .before .before .before .before .before .before in
     accept-edit _ _ (spliced (splice-at x)) (passed x)
-    (planned x (c .before .before .before .before .before .before .before .before .before .before .before .before .p .given .1)) (w .ensures .0) (w .ensures .1 .0) (w .ensures .1 .1 .0) (w .ensures .1 .1 .1)
+    (planned x (c .before .before .before .before .before .before .before .before .before .before .before .before .planned .given .1)) (w .ensures .0) (w .ensures .1 .0) (w .ensures .1 .1 .0) (w .ensures .1 .1 .1)
 
 same-length-7 : tie.Need-same-length-7
 same-length-7 c = search needs
@@ -195,53 +183,12 @@ same-length-9 c = search needs
 same-length-10 : tie.Need-same-length-10
 same-length-10 c = search needs
 
+-- a refusal of the plan is one of the edit
 returns-3 : tie.Need-returns-3
-returns-3 c = refused (c .before .before .before) (c .before .u2 .given .1)
-
-same-length-11 : tie.Need-same-length-11
-same-length-11 c = search needs
-
-same-length-12 : tie.Need-same-length-12
-same-length-12 c = search needs
-
-same-length-13 : tie.Need-same-length-13
-same-length-13 c = search needs
-
-same-length-14 : tie.Need-same-length-14
-same-length-14 c = search needs
-
-returns-4 : tie.Need-returns-4
-returns-4 c = refused (c .before .before .before) (c .before .least .given .1)
-
-same-length-15 : tie.Need-same-length-15
-same-length-15 c = search needs
-
-same-length-16 : tie.Need-same-length-16
-same-length-16 c = search needs
-
-same-length-17 : tie.Need-same-length-17
-same-length-17 c = search needs
-
-same-length-18 : tie.Need-same-length-18
-same-length-18 c = search needs
-
-returns-5 : tie.Need-returns-5
-returns-5 c = refused (c .before .before .before) (c .before .least2 .given .1)
-
-same-length-19 : tie.Need-same-length-19
-same-length-19 c = search needs
-
-same-length-20 : tie.Need-same-length-20
-same-length-20 c = search needs
-
-same-length-21 : tie.Need-same-length-21
-same-length-21 c = search needs
-
-same-length-22 : tie.Need-same-length-22
-same-length-22 c = search needs
-
-returns-6 : tie.Need-returns-6
-returns-6 c = refused (c .before .before) (c .enum-told2 .given .1)
+returns-3 c =
+    let x = c .before .before in
+    subst (λ (r : EditAnswer). Refused (lent-at (start-of x)) (edit-at (start-of x)) r (spare-at (splice-at x))) (sym (c .refusal-of .ensures))
+    (refused-edit _ _ (spliced (splice-at x)) (passed x) (x .plan-edit .result) (x .plan-edit .ensures) (c .before .match2 .keys2))
 
 pub edit-text-spec : {M : Type 1} → statement M
 edit-text-spec =
@@ -260,12 +207,9 @@ edit-text-spec =
     slice-reshare-prefix-plan-edit
     slice-aggregate-plan-edit
     plan-edit-requires
-    enum-known-p
+    enum-known-planned
     write-edit-requires
-    enum-known-u-2
-    enum-known-least
-    enum-known-least-2
-    enum-told-2
+    refusal-of-requires
     same-length-3
     same-length-4
     same-length-5
@@ -275,19 +219,4 @@ edit-text-spec =
     same-length-8
     same-length-9
     same-length-10
-    returns-3
-    same-length-11
-    same-length-12
-    same-length-13
-    same-length-14
-    returns-4
-    same-length-15
-    same-length-16
-    same-length-17
-    same-length-18
-    returns-5
-    same-length-19
-    same-length-20
-    same-length-21
-    same-length-22
-    returns-6)
+    returns-3)

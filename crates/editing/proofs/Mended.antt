@@ -19,8 +19,8 @@ use Rattle.rules.proofs.BoundLaws.{AllLe, wordMax, Small, fresh-small}
 use Rattle.header.specs.Pages.{page}
 use Rattle.moving.specs.Moved.{movedLines, movedTokens}
 use Rattle.moving.proofs.Shifts.{all-right, moved-line-records, moved-token-records}
-use Rattle.planning.specs.Plans.{Planned, Mends}
-use Rattle.planning.specs.declared.Plan.{Plan}
+use Rattle.plans.specs.Plans.{Planned, Mends}
+use Rattle.plans.specs.declared.Plan.{Plan}
 use Rattle.writing.proofs.Writes.{written-sizes}
 use Rattle.writing.specs.Writes.{written, lineTail, tokenTail, writtenLines, writtenTokens}
 

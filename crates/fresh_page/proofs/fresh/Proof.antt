@@ -1,4 +1,4 @@
--- `page::fresh` meets its contract. So far i words are 0.
+-- `fresh_page::fresh` meets its contract. So far i words are 0.
 -- Assumes nothing.
 use Prim.Native.Nat.{ℕ, _+_, _-_, _*_, _≤_, _<_}
 use mathlib.Core.Path.{_≡_, refl, sym, ap, _∙_}
@@ -9,9 +9,9 @@ use borrow.Author.Needs.{needs}
 use Rattle.rules.specs.Lists.{overwrite}
 use Rattle.rules.specs.Records.{lineSize}
 use Rattle.rules.proofs.BufferLaws.{length-overwrite, zero-more}
-use Rattle.page.proofs.FreshPages.{fresh-short, fresh-long, none-yet}
-use Rattle.page.proofs.fresh.Statement.{statement}
-use Rattle.page.proofs.fresh.Tie as tie
+use Rattle.fresh_page.proofs.FreshPages.{fresh-short, fresh-long, none-yet}
+use Rattle.fresh_page.proofs.fresh.Statement.{statement}
+use Rattle.fresh_page.proofs.fresh.Tie as tie
 
 abbrev Inv-loop : tie.InvT-loop
 Inv-loop lines₀ i₀ lines i = (i ≤ lineSize) × (lines ≡ overwrite (replicate i 0) lines₀)
