@@ -1,3 +1,2 @@
-pub mod Fields
-pub mod Details
+pub mod Excerpts
 pub mod Whole

@@ -14,10 +14,10 @@ use Rattle.rules.specs.Utf8.{laterByte, encode}
 use Rattle.rules.specs.Failure.{Shows, nothing, scalar, hexDigits, details, detailOf, FailureRecord}
 use Rattle.rules.specs.Reading.{notLF, content}
 use Rattle.rules.specs.Report.{digitsIn, decimal, shown, detailText, aligned, failingLine, message}
-use Rattle.print.proofs.Prints.{places-le, length-digits}
-use Rattle.message.specs.Messages.{Room, Put, headingOf, placeOf, excerptOf, caretOf, messageOf}
-use Rattle.message.proofs.Fields.{length-fields}
-use Rattle.message.proofs.Details.{length-decimal}
+use Rattle.print.proofs.Prints.{places-le, length-digits, length-decimal}
+use Rattle.print.specs.Fields.{Room, Put}
+use Rattle.message.specs.Messages.{headingOf, placeOf, excerptOf, caretOf, messageOf}
+use Rattle.print.proofs.Fields.{length-fields}
 
 abbrev pub fieldsOf : List ℕ → (code detail found line column start : ℕ) → List (List ℕ)
 fieldsOf t n d c l k start = headingOf n d c ++ (placeOf l k ++ (excerptOf t l start ++ caretOf k))

@@ -1,1 +1,2 @@
 pub mod Prints
+pub mod Fields

@@ -104,3 +104,7 @@ pub length-digits : (base places n : ℕ) (tail : List ℕ) → length (digitsIn
 unfolding digitsIn
 length-digits base zero n tail = omega arith
 length-digits base (suc places) n tail = omega (arith, length-digits base places (n / base) (digit (n % base) ∷ tail))
+
+pub length-decimal : (n : ℕ) → length (decimal n) ≡ placesFrom n n
+unfolding decimal
+length-decimal n = omega (arith, length-digits 10 (placesFrom n n) n [])

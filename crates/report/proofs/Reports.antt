@@ -27,13 +27,14 @@ use Rattle.refusals.specs.declared.FailureRecord.{FailureRecord}
 use Rattle.refusals.specs.declared.Unread.{Unread}
 use Rattle.refusals.specs.declared.Unread.the-variants.{TooLong, Malformed, Fails, AtLine}
 use Rattle.refusals.proofs.Unread.{the-type}
-use Rattle.reading.specs.declared.Pass.the-variants as pass-variants
-use Rattle.reading.specs.Passes.{passOf}
-use Rattle.reading.proofs.Fills.{overwritten}
+use Rattle.passes.specs.declared.Pass.the-variants as pass-variants
+use Rattle.passes.specs.Passes.{passOf}
+use Rattle.copies.proofs.Joins.{front-over}
 use Rattle.message.proofs.Whole.{message-of}
 use Rattle.report.specs.declared.ReportAnswer.{ReportAnswer}
 use Rattle.report.specs.declared.ReportAnswer.the-variants as answers
-use Rattle.report.specs.Answers.{reportNumbers, messageIn, Printable, Reportable}
+use Rattle.message.specs.Messages.{messageIn, Printable}
+use Rattle.report.specs.Answers.{reportNumbers, Reportable}
 
 -- the answer r, and out left as O
 abbrev pub Answered : (x : Reported) (r : ReportAnswer) (O : List ℕ) → Type 0
@@ -53,7 +54,7 @@ module _ (out msg : List ℕ) (n : ℕ) (e : n ≡ length msg) where
   message-answer O₁ O q h p =
       let fits : length msg ≤ length out = omega (arith, ap length q) in
       rw (le-ltb (length out) (length msg) fits)
-      (ap (λ (i : ℕ). 0 ∷ i ∷ []) e, p ∙ ap (λ (l : List ℕ). sets l 0 msg) q ∙ overwritten msg out fits)
+      (ap (λ (i : ℕ). 0 ∷ i ∷ []) e, p ∙ ap (λ (l : List ℕ). sets l 0 msg) q ∙ front-over out msg fits)
 
 -- A failure of the fresh reading can be written.
 

@@ -3,7 +3,8 @@ ghost use mathlib.Core.Path.{_≡_};
 ghost use Rattle.rules.specs.Records.{unread};
 ghost use Rattle.rules.specs.Report.{written, reportBy, reportInto};
 ghost use Rattle.refusals.specs.Unreads.{unreadOf};
-ghost use Rattle.report.specs.Answers.{reportNumbers, messageIn, Printable, Reportable};
+ghost use Rattle.message.specs.Messages.{messageIn, Printable};
+ghost use Rattle.report.specs.Answers.{reportNumbers, Reportable};
 
 // The answer of `report`: the size of the message, 0 where the text reads; or why the text is refused, but not 3, or 5 for
 // out with its least length.
@@ -19,31 +20,11 @@ fn put_failure(text: &[u8], out: &mut [u8], f: refusals::FailureRecord) -> Repor
     ensures { λ r. ⌜ reportNumbers r ≡ written (now (out .entry)) (messageIn (now (text .entry)) f) .reply ⌝ }
     ensures { λ _. ⌜ now (out .exit) ≡ written (now (out .entry)) (messageIn (now (text .entry)) f) .out ⌝ }
 {
-    let size = message::put_message(
-        out,
-        false,
-        text,
-        f.code,
-        f.detail,
-        f.found,
-        f.position,
-        f.line,
-        f.column,
-    );
+    let size = message::put_message(out, false, text, f);
     if out.len() < size {
         return ReportAnswer::ShortOut(size);
     }
-    let _ = message::put_message(
-        out,
-        true,
-        text,
-        f.code,
-        f.detail,
-        f.found,
-        f.position,
-        f.line,
-        f.column,
-    );
+    let _ = message::put_message(out, true, text, f);
     ReportAnswer::Message(size)
 }
 
@@ -64,8 +45,8 @@ pub fn report(text: &[u8], out: &mut [u8]) -> ReportAnswer
     ensures { λ r. ⌜ reportNumbers r ≡ reportInto (now (text .entry)) (now (out .entry)) .reply ⌝ }
     ensures { λ _. ⌜ now (out .exit) ≡ reportInto (now (text .entry)) (now (out .entry)) .out ⌝ }
 {
-    match reading::open_text(refusals::barge_limits(), text) {
-        reading::Pass::Records(_, _) => ReportAnswer::Message(0),
-        reading::Pass::Refused(u) => report_unread(text, out, u),
+    match passes::open_text(refusals::barge_limits(), text) {
+        passes::Pass::Records(_, _) => ReportAnswer::Message(0),
+        passes::Pass::Refused(u) => report_unread(text, out, u),
     }
 }

@@ -1,4 +1,3 @@
-pub mod Rows
 pub mod Sizes
 pub mod Scans
 pub mod Shown

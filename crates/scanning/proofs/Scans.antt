@@ -21,14 +21,14 @@ use Rattle.refusals.specs.declared.FailureRecord.{FailureRecord}
 use Rattle.refusals.specs.declared.Unread.{Unread}
 use Rattle.refusals.specs.declared.Unread.the-variants.{TooLong, Malformed, Fails, AtLine}
 use Rattle.refusals.specs.Unreads.{recordOf, unreadOf}
-use Rattle.reading.proofs.Fills.{overwritten}
-use Rattle.message.specs.Messages.{Room, Put}
-use Rattle.message.proofs.Fields.{concat-one}
+use Rattle.copies.proofs.Joins.{front-over}
+use Rattle.print.specs.Fields.{Room, Put}
+use Rattle.print.proofs.Fields.{concat-one}
 use Rattle.message.proofs.Whole.{message-of}
-use Rattle.report.specs.Answers.{messageIn, Printable}
+use Rattle.message.specs.Messages.{messageIn, Printable}
 use Rattle.report.proofs.Reports.{printable}
 use Rattle.scanning.specs.Shown.{Shows}
-use Rattle.scanning.proofs.Rows.{rows-front}
+use Rattle.rows.proofs.Rows.{rows-front}
 use Rattle.scanning.proofs.Sizes.{rows-small, refused-room, rows-room-in, message-room-in}
 
 -- What is put is what `scan` prints.
@@ -40,7 +40,7 @@ scanned : (t : List ℕ) {out : List ℕ} {xs : List (List ℕ)} {r : ℕ} {O : 
     → Scanned t out r O
 scanned t {out} {xs} m e p =
     let l : length (concat xs) ≤ length out = omega (arith, m .fits refl) in
-    (omega (arith, p .size, ap length e), p .holds ∙ overwritten (concat xs) out l ∙ ap (λ (s : List ℕ). overwrite s out) e)
+    (omega (arith, p .size, ap length e), p .holds ∙ front-over out (concat xs) l ∙ ap (λ (s : List ℕ). overwrite s out) e)
 
 -- it stands at the front of out
 pub scanned-front : (t out : List ℕ) {r : ℕ} {O : List ℕ} → Scanned t out r O → (r ≤ length O) × (r ≡ length (take r O))

@@ -13,11 +13,11 @@ use Rattle.rules.specs.Scan.{pageRow, tokenRow, tokenRows, refusedRow}
 use Rattle.rules.proofs.BoundLaws.{AllLe, wordMax}
 use Rattle.print.proofs.Prints.{places-le}
 use Rattle.refusals.specs.declared.FailureRecord.{FailureRecord}
-use Rattle.message.specs.Messages.{Room}
-use Rattle.message.proofs.Fields.{concat-one}
-use Rattle.message.proofs.Details.{length-decimal}
+use Rattle.print.specs.Fields.{Room}
+use Rattle.print.proofs.Fields.{concat-one}
+use Rattle.print.proofs.Prints.{length-decimal}
 use Rattle.message.proofs.Whole.{message-fields, fields-small}
-use Rattle.report.specs.Answers.{messageIn, Printable}
+use Rattle.message.specs.Messages.{messageIn, Printable}
 
 -- Every word of a record has at most 7 digits.
 

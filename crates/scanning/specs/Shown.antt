@@ -7,7 +7,7 @@ use Rattle.rules.specs.Lists.{ascii}
 use Rattle.rules.specs.Scan.{refusedRow, scanOutput}
 use Rattle.refusals.specs.declared.Unread.{Unread}
 use Rattle.refusals.specs.declared.Unread.the-variants.{TooLong, Malformed, Fails, AtLine}
-use Rattle.report.specs.Answers.{messageIn, Printable}
+use Rattle.message.specs.Messages.{messageIn, Printable}
 
 -- a message that can be written, or a number
 abbrev pub Shows : List ℕ → Unread → Type 0

@@ -7,7 +7,7 @@ use lib.ListN.{length, drop}
 use Rattle.rules.specs.Lists.{run}
 use Rattle.rules.specs.Reading.{notLF}
 use Rattle.rules.proofs.ListLaws.{run-pass, run-stop, run-end}
-use Rattle.message.proofs.Details.{lf-stops, others-pass}
+use Rattle.message.proofs.Excerpts.{lf-stops, others-pass}
 use Rattle.message.proofs.content_size.Statement.{statement}
 use Rattle.message.proofs.content_size.Tie as tie
 

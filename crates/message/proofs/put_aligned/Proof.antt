@@ -3,8 +3,8 @@
 use mathlib.Core.Path.{sym}
 use borrow.Author.Needs.{needs}
 use Rattle.rules.specs.Report.{decimal}
-use Rattle.message.proofs.Fields.{put-as, put-then, room-as, room-first, room-next, decimal-room, bytes-put, fill-room, fill-put}
-use Rattle.message.proofs.Details.{aligned-one, aligned-more}
+use Rattle.print.proofs.Fields.{put-as, put-then, room-as, room-first, room-next, decimal-room, bytes-put, fill-room, fill-put}
+use Rattle.message.proofs.Excerpts.{aligned-one, aligned-more}
 use Rattle.message.proofs.put_aligned.Statement.{statement}
 use Rattle.message.proofs.put_aligned.Tie as tie
 

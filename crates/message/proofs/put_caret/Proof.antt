@@ -1,6 +1,6 @@
 -- `message::put_caret` meets its contract.
 -- Assumes nothing.
-use Rattle.message.proofs.Fields.{bytes-put, bytes-room, fill-put, fill-room, put-then, room-first, room-next}
+use Rattle.print.proofs.Fields.{bytes-put, bytes-room, fill-put, fill-room, put-then, room-first, room-next}
 use borrow.Author.Needs.{needs}
 use Rattle.message.proofs.put_caret.Statement.{statement}
 use Rattle.message.proofs.put_caret.Tie as tie

@@ -5,8 +5,8 @@ use native.Mathlib.Omega.{arith}
 use borrow.Author.Needs.{needs}
 use Rattle.rules.specs.Reading.{notLF}
 use Rattle.rules.proofs.ListLaws.{run-le}
-use Rattle.message.proofs.Fields.{put-as, room-as, bytes-room, bytes-put, field-as}
-use Rattle.message.proofs.Details.{part-content}
+use Rattle.print.proofs.Fields.{put-as, room-as, bytes-room, bytes-put, field-as}
+use Rattle.message.proofs.Excerpts.{part-content}
 use Rattle.message.proofs.put_content.Statement.{statement}
 use Rattle.message.proofs.put_content.Tie as tie
 

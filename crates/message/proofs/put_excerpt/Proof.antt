@@ -1,9 +1,9 @@
 -- `message::put_excerpt` meets its contract.
 -- Assumes nothing.
-use Rattle.message.proofs.Fields.{bytes-put, bytes-room, put-then, room-first, room-next, put-as, room-as}
+use Rattle.print.proofs.Fields.{bytes-put, bytes-room, put-then, room-first, room-next, put-as, room-as}
 use borrow.Author.Needs.{needs}
 use mathlib.Core.Path.{sym}
-use Rattle.message.proofs.Details.{rest-content}
+use Rattle.message.proofs.Excerpts.{rest-content}
 use Rattle.message.proofs.put_excerpt.Statement.{statement}
 use Rattle.message.proofs.put_excerpt.Tie as tie
 

@@ -1,7 +1,7 @@
 -- `message::put_heading` meets its contract.
 -- Assumes nothing.
 use native.Mathlib.Omega.{arith}
-use Rattle.message.proofs.Fields.{bytes-put, bytes-room, digits-put, digits-room, put-then, room-first, room-next}
+use Rattle.print.proofs.Fields.{bytes-put, bytes-room, digits-put, digits-room, put-then, room-first, room-next}
 use borrow.Author.Needs.{needs}
 use Rattle.message.proofs.put_heading.Statement.{statement}
 use Rattle.message.proofs.put_heading.Tie as tie

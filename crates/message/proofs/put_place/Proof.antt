@@ -1,6 +1,6 @@
 -- `message::put_place` meets its contract.
 -- Assumes nothing.
-use Rattle.message.proofs.Fields.{bytes-put, bytes-room, decimal-room, put-then, room-first, room-next}
+use Rattle.print.proofs.Fields.{bytes-put, bytes-room, decimal-room, put-then, room-first, room-next}
 use borrow.Author.Needs.{needs}
 use Rattle.message.proofs.put_place.Statement.{statement}
 use Rattle.message.proofs.put_place.Tie as tie

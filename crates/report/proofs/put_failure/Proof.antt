@@ -2,7 +2,7 @@
 -- Assumes nothing.
 use mathlib.Core.Bool.{false≢true}
 use borrow.Author.Needs.{needs}
-use Rattle.report.specs.Answers.{messageIn}
+use Rattle.message.specs.Messages.{messageIn}
 use Rattle.report.proofs.Reports.{short-answer, message-answer}
 use Rattle.report.proofs.put_failure.Statement.{statement}
 use Rattle.report.proofs.put_failure.Tie as tie

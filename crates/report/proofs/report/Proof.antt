@@ -9,10 +9,10 @@ use Rattle.rules.specs.Records.{unread, freshReadingBy, freshReading}
 use Rattle.refusals.specs.Unreads.{unreadOf}
 use Rattle.refusals.specs.declared.Unread.{Unread}
 use Rattle.refusals.proofs.Barge.{barge-fits}
-use Rattle.reading.specs.Passes.{passOf}
-use Rattle.reading.specs.declared.Pass.{Pass}
-use Rattle.reading.specs.declared.Pass.the-variants.{Refused}
-use Rattle.reading.proofs.Fills.{pass-refused}
+use Rattle.passes.specs.Passes.{passOf}
+use Rattle.passes.specs.declared.Pass.{Pass}
+use Rattle.passes.specs.declared.Pass.the-variants.{Refused}
+use Rattle.passes.proofs.Passes.{pass-refused}
 use Rattle.report.proofs.Reports.{reportable, clear-answer, unread-next}
 use Rattle.report.proofs.report.Statement.{statement}
 use Rattle.report.proofs.report.Tie as tie

@@ -1,7 +1,7 @@
 -- `scanning::put_failure` meets its contract.
 -- Assumes nothing.
-use Rattle.message.proofs.Fields.{bytes-room, bytes-put, room-next, put-then}
-use Rattle.scanning.proofs.Rows.{room-start, put-start}
+use Rattle.print.proofs.Fields.{bytes-room, bytes-put, room-next, put-then}
+use Rattle.rows.proofs.Rows.{room-start, put-start}
 use borrow.Author.Needs.{needs}
 use Rattle.scanning.proofs.put_failure.Statement.{statement}
 use Rattle.scanning.proofs.put_failure.Tie as tie
