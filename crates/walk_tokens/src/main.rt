@@ -12,7 +12,7 @@ fn print_number(n: u32) {
 }
 
 // The five words of a record.
-fn print_record(t: tokens::TokenRecord) {
+fn print_record(t: token_walk::TokenRecord) {
     print_number(t.kind);
     print_number(t.position);
     print_number(t.size);
@@ -32,7 +32,7 @@ fn print_text<'a>(
     names: &'a [u8],
 ) {
     let mut number: u32 = 99;
-    let part = tokens::token_text(n, m, k, text, lines, words, i, names, &mut number);
+    let part = token_text::token_text(n, m, k, text, lines, words, i, names, &mut number);
     print_number(number);
     io::write_all(libc::STDOUT_FILENO, part);
     io::write_all(libc::STDOUT_FILENO, b"\n");
@@ -50,13 +50,13 @@ fn print_tokens<'a>(
 ) {
     let mut next: usize = 0;
     while next < words.len() {
-        match tokens::step_from(words, next) {
-            tokens::Step::Record(after, t) => {
+        match token_walk::step_from(words, next) {
+            token_walk::Step::Record(after, t) => {
                 print_record(t);
                 print_text(n, m, k, text, lines, words, next, names);
                 next = after;
             }
-            tokens::Step::Done(_) => {
+            token_walk::Step::Done(_) => {
                 return;
             }
         }

@@ -3,7 +3,7 @@
 use Prim.Native.Nat.{_-_}
 use native.Mathlib.Omega.{arith}
 use lib.ListN.{length}
-use Rattle.tokens.proofs.Steps.{one-further}
+use Rattle.token_walk.proofs.Steps.{one-further}
 use borrow.Author.Needs.{needs}
 use Rattle.walk_tokens.proofs.print_tokens.Statement.{statement}
 use Rattle.walk_tokens.proofs.print_tokens.Tie as tie

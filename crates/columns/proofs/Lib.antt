@@ -1,0 +1,3 @@
+pub mod LastLine
+pub mod Scalars
+pub mod Walks
