@@ -9,7 +9,7 @@ use Rattle.rules.specs.Replies.{Reply}
 use Rattle.rules.specs.Page.{Lent}
 use Rattle.rules.specs.StopRule.{Edit}
 use Rattle.rules.specs.Edit.{EditPost}
-use Rattle.page.specs.Answers.{lentAfter}
+use Rattle.editing.specs.Answers.{lentAfter}
 
 -- THE CONTRACT of the call: an answer that the edit's contract allows, with the buffers it leaves, stands at the front of the
 -- reply, and `count` is the number of its words

@@ -12,8 +12,8 @@ ghost use Rattle.header.specs.Pages.{page};
 ghost use Rattle.rules.specs.Records.{header};
 ghost use Rattle.rules.specs.Page.{freshReply, freshLines};
 ghost use Rattle.rules.specs.Check.{checkReply};
-ghost use Rattle.planning.specs.Plans.{editOf};
-ghost use Rattle.page.specs.Answers.{lent};
+ghost use Rattle.plans.specs.Plans.{editOf};
+ghost use Rattle.editing.specs.Answers.{lent};
 ghost use Rattle.lexpage.specs.Edits.{EditReplied};
 
 // A reading of a text by itself.
@@ -29,7 +29,7 @@ pub extern "C" fn lexpage_read(
     ensures { λ _. ⌜ now (lines .exit) ≡ readInto (now (text .entry)) (now (lines .entry)) (now (tokens .entry)) .lines ⌝ }
     ensures { λ _. ⌜ now (tokens .exit) ≡ readInto (now (text .entry)) (now (lines .entry)) (now (tokens .entry)) .tokens ⌝ }
 {
-    page_replies::put_read(reply, reading::read(text, lines, tokens))
+    text_replies::put_read(reply, reading::read(text, lines, tokens))
 }
 
 // The panel column of an offset.
@@ -38,7 +38,7 @@ pub extern "C" fn lexpage_panel_column(text: &[u8], offset: usize, reply: &mut [
     ensures { λ r. ⌜ r ≡ length (columnReply (now (text .entry)) offset) ⌝ }
     ensures { λ _. ⌜ now (reply .exit) ≡ sets (now (reply .entry)) 0 (columnReply (now (text .entry)) offset) ⌝ }
 {
-    query_replies::put_column(reply, queries::panel_column(text, offset))
+    text_replies::put_column(reply, columns::panel_column(text, offset))
 }
 
 // The value of a byte literal.
@@ -47,7 +47,7 @@ pub extern "C" fn lexpage_byte_value(text: &[u8], reply: &mut [u64; 16]) -> u64
     ensures { λ r. ⌜ r ≡ length (valueReply (now (text .entry))) ⌝ }
     ensures { λ _. ⌜ now (reply .exit) ≡ sets (now (reply .entry)) 0 (valueReply (now (text .entry))) ⌝ }
 {
-    query_replies::put_value(reply, queries::ascii_byte_literal_value(text))
+    text_replies::put_value(reply, byte_value::ascii_byte_literal_value(text))
 }
 
 // The message of a text's failure.
@@ -57,7 +57,7 @@ pub extern "C" fn lexpage_report(text: &[u8], out: &mut [u8], reply: &mut [u64; 
     ensures { λ _. ⌜ now (reply .exit) ≡ sets (now (reply .entry)) 0 (reportInto (now (text .entry)) (now (out .entry)) .reply) ⌝ }
     ensures { λ _. ⌜ now (out .exit) ≡ reportInto (now (text .entry)) (now (out .entry)) .out ⌝ }
 {
-    page_replies::put_report(reply, report::report(text, out))
+    text_replies::put_report(reply, report::report(text, out))
 }
 
 // Where the text of token i of a page stands.
@@ -76,9 +76,9 @@ pub extern "C" fn lexpage_token_text(
     ensures { λ r. ⌜ r ≡ length (tokenTextReply (page n m k (now (text .entry)) (now (lines .entry)) (now (tokens .entry))) i (length (now (names .entry)))) ⌝ }
     ensures { λ _. ⌜ now (reply .exit) ≡ sets (now (reply .entry)) 0 (tokenTextReply (page n m k (now (text .entry)) (now (lines .entry)) (now (tokens .entry))) i (length (now (names .entry)))) ⌝ }
 {
-    query_replies::put_part(
+    token_replies::put_part(
         reply,
-        tokens::token_part(n, m, k, text, lines, tokens, i, names),
+        token_text::token_part(n, m, k, text, lines, tokens, i, names),
     )
 }
 
@@ -88,7 +88,7 @@ pub extern "C" fn lexpage_walk_step(tokens: &[u32], next: usize, reply: &mut [u6
     ensures { λ r. ⌜ r ≡ length (walkReply (now (tokens .entry)) next) ⌝ }
     ensures { λ _. ⌜ now (reply .exit) ≡ sets (now (reply .entry)) 0 (walkReply (now (tokens .entry)) next) ⌝ }
 {
-    query_replies::put_step(reply, tokens::walk_step(tokens, next))
+    token_replies::put_step(reply, token_walk::walk_step(tokens, next))
 }
 
 // The fresh page.
@@ -98,7 +98,7 @@ pub extern "C" fn lexpage_fresh(lines: &mut [u32], reply: &mut [u64; 16]) -> u64
     ensures { λ _. ⌜ now (reply .exit) ≡ sets (now (reply .entry)) 0 (freshReply (length (now (lines .entry)))) ⌝ }
     ensures { λ _. ⌜ now (lines .exit) ≡ freshLines (now (lines .entry)) ⌝ }
 {
-    page_replies::put_fresh(reply, page::fresh(lines))
+    page_replies::put_fresh(reply, fresh_page::fresh(lines))
 }
 
 // An edit of a page: bytes a..b become w.
@@ -138,5 +138,5 @@ pub extern "C" fn lexpage_check(
     ensures { λ r. ⌜ r ≡ length (checkReply (page n m k (now (text .entry)) (now (lines .entry)) (now (tokens .entry)))) ⌝ }
     ensures { λ _. ⌜ now (reply .exit) ≡ sets (now (reply .entry)) 0 (checkReply (page n m k (now (text .entry)) (now (lines .entry)) (now (tokens .entry)))) ⌝ }
 {
-    query_replies::put_check(reply, checking::check(n, m, k, text, lines, tokens))
+    page_replies::put_check(reply, checking::check(n, m, k, text, lines, tokens))
 }

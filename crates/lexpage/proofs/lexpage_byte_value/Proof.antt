@@ -1,7 +1,5 @@
 -- `lexpage::lexpage_byte_value` meets its contract.
 -- Assumes nothing.
-use mathlib.Core.Path.{_≡_}
-use Rattle.replies.proofs.Replies.{told-as}
 use borrow.Author.Needs.{needs}
 use Rattle.lexpage.proofs.lexpage_byte_value.Statement.{statement}
 use Rattle.lexpage.proofs.lexpage_byte_value.Tie as tie
@@ -13,7 +11,7 @@ put-value-requires : tie.Need-put-value-requires
 put-value-requires c κs = search needs
 
 returns : tie.Need-returns
-returns c = told-as _ _ _ _ _ (c .before .ascii-byte-literal-value .ensures) (c .put-value .ensures)
+returns c = rw (c .before .ascii-byte-literal-value .ensures) at (c .put-value .ensures)
 
 pub lexpage-byte-value-spec : {M : Type 1} → statement M
 lexpage-byte-value-spec =

@@ -1,6 +1,5 @@
 -- `lexpage::lexpage_check` meets its contract.
 -- Assumes nothing.
-use Rattle.replies.proofs.Replies.{told-as}
 use borrow.Author.Needs.{needs}
 use Rattle.lexpage.proofs.lexpage_check.Statement.{statement}
 use Rattle.lexpage.proofs.lexpage_check.Tie as tie
@@ -12,7 +11,7 @@ put-check-requires : tie.Need-put-check-requires
 put-check-requires c κs = search needs
 
 returns : tie.Need-returns
-returns c = told-as _ _ _ _ _ (c .before .check .ensures) (c .put-check .ensures)
+returns c = rw (c .before .check .ensures) at (c .put-check .ensures)
 
 pub lexpage-check-spec : {M : Type 1} → statement M
 lexpage-check-spec = tie.close (tie.spec check-requires put-check-requires returns)

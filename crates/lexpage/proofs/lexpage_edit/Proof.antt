@@ -1,6 +1,6 @@
 -- `lexpage::lexpage_edit` meets its contract.
 -- Assumes nothing.
-use Rattle.page.specs.Answers.{editNumbers}
+use Rattle.editing.specs.Answers.{editNumbers}
 use borrow.Author.Needs.{needs}
 use Rattle.lexpage.proofs.lexpage_edit.Statement.{statement}
 use Rattle.lexpage.proofs.lexpage_edit.Tie as tie

@@ -1,6 +1,5 @@
 -- `lexpage::lexpage_fresh` meets its contract.
 -- Assumes nothing.
-use Rattle.replies.proofs.Replies.{told-as}
 use borrow.Author.Needs.{needs}
 use Rattle.lexpage.proofs.lexpage_fresh.Statement.{statement}
 use Rattle.lexpage.proofs.lexpage_fresh.Tie as tie
@@ -17,7 +16,7 @@ same-length c = search needs
 returns : tie.Need-returns
 returns c =
     let d = c .before .before .before .fresh .ensures in
-    let t = told-as _ _ _ _ _ (d .0) (c .put-fresh .ensures) in
+    let t = rw (d .0) at (c .put-fresh .ensures) in
     (t .0, (t .1, d .1))
 
 pub lexpage-fresh-spec : {M : Type 1} → statement M

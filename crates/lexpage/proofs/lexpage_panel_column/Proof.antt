@@ -1,7 +1,5 @@
 -- `lexpage::lexpage_panel_column` meets its contract.
 -- Assumes nothing.
-use mathlib.Core.Path.{_≡_}
-use Rattle.replies.proofs.Replies.{told-as}
 use borrow.Author.Needs.{needs}
 use Rattle.lexpage.proofs.lexpage_panel_column.Statement.{statement}
 use Rattle.lexpage.proofs.lexpage_panel_column.Tie as tie
@@ -13,7 +11,7 @@ put-column-requires : tie.Need-put-column-requires
 put-column-requires c κs = search needs
 
 returns : tie.Need-returns
-returns c = told-as _ _ _ _ _ (c .before .panel-column .ensures) (c .put-column .ensures)
+returns c = rw (c .before .panel-column .ensures) at (c .put-column .ensures)
 
 pub lexpage-panel-column-spec : {M : Type 1} → statement M
 lexpage-panel-column-spec = tie.close (tie.spec panel-column-requires put-column-requires returns)

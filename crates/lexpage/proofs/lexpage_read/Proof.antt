@@ -1,7 +1,5 @@
 -- `lexpage::lexpage_read` meets its contract.
 -- Assumes nothing.
-use mathlib.Core.Path.{_≡_, sym, ap, _∙_}
-use Rattle.replies.proofs.Replies.{told-as}
 use borrow.Author.Needs.{needs}
 use Rattle.lexpage.proofs.lexpage_read.Statement.{statement}
 use Rattle.lexpage.proofs.lexpage_read.Tie as tie
@@ -21,7 +19,7 @@ same-length-2 c = search needs
 returns : tie.Need-returns
 returns c =
     let d = c .before .before .before .before .before .read .ensures in
-    let t = told-as _ _ _ _ _ (d .0) (c .put-read .ensures) in
+    let t = rw (d .0) at (c .put-read .ensures) in
     (t .0, (t .1, (d .1 .0, d .1 .1)))
 
 pub lexpage-read-spec : {M : Type 1} → statement M

@@ -1,7 +1,5 @@
 -- `lexpage::lexpage_report` meets its contract.
 -- Assumes nothing.
-use mathlib.Core.Path.{_≡_}
-use Rattle.replies.proofs.Replies.{told-as}
 use borrow.Author.Needs.{needs}
 use Rattle.lexpage.proofs.lexpage_report.Statement.{statement}
 use Rattle.lexpage.proofs.lexpage_report.Tie as tie
@@ -18,7 +16,7 @@ same-length c = search needs
 returns : tie.Need-returns
 returns c =
     let d = c .before .before .before .report .ensures in
-    let t = told-as _ _ _ _ _ (d .0) (c .put-report .ensures) in
+    let t = rw (d .0) at (c .put-report .ensures) in
     (t .0, (t .1, d .1))
 
 pub lexpage-report-spec : {M : Type 1} → statement M

@@ -1,6 +1,5 @@
 -- `lexpage::lexpage_token_text` meets its contract.
 -- Assumes nothing.
-use Rattle.replies.proofs.Replies.{told-as}
 use borrow.Author.Needs.{needs}
 use Rattle.lexpage.proofs.lexpage_token_text.Statement.{statement}
 use Rattle.lexpage.proofs.lexpage_token_text.Tie as tie
@@ -12,7 +11,7 @@ put-part-requires : tie.Need-put-part-requires
 put-part-requires c κs = search needs
 
 returns : tie.Need-returns
-returns c = told-as _ _ _ _ _ (c .before .token-part .ensures) (c .put-part .ensures)
+returns c = rw (c .before .token-part .ensures) at (c .put-part .ensures)
 
 pub lexpage-token-text-spec : {M : Type 1} → statement M
 lexpage-token-text-spec = tie.close (tie.spec token-part-requires put-part-requires returns)

@@ -1,6 +1,5 @@
 -- `lexpage::lexpage_walk_step` meets its contract.
 -- Assumes nothing.
-use Rattle.replies.proofs.Replies.{told-as}
 use borrow.Author.Needs.{needs}
 use Rattle.lexpage.proofs.lexpage_walk_step.Statement.{statement}
 use Rattle.lexpage.proofs.lexpage_walk_step.Tie as tie
@@ -12,7 +11,7 @@ put-step-requires : tie.Need-put-step-requires
 put-step-requires c κs = search needs
 
 returns : tie.Need-returns
-returns c = told-as _ _ _ _ _ (c .before .walk-step .ensures) (c .put-step .ensures)
+returns c = rw (c .before .walk-step .ensures) at (c .put-step .ensures)
 
 pub lexpage-walk-step-spec : {M : Type 1} → statement M
 lexpage-walk-step-spec = tie.close (tie.spec walk-step-requires put-step-requires returns)

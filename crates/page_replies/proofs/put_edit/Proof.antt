@@ -1,8 +1,5 @@
 -- `page_replies::put_edit` meets its contract.
 -- Assumes nothing.
-use mathlib.Core.Path.{sym, ap}
-use Rattle.page.specs.Answers.{editNumbers}
-use Rattle.replies.proofs.Replies.{told-as}
 use borrow.Author.Needs.{needs}
 use Rattle.page_replies.proofs.put_edit.Statement.{statement}
 use Rattle.page_replies.proofs.put_edit.Tie as tie
@@ -56,28 +53,28 @@ put-one-requires-2 : tie.Need-put-one-requires-2
 put-one-requires-2 c κs = search needs
 
 returns : tie.Need-returns
-returns c = told-as _ _ _ _ _ (ap editNumbers (sym (c .before .before .before .r .given .1))) (c .put-five .ensures)
+returns c = rw (c .before .before .before .r .given .1) (c .put-five .ensures)
 
 returns-2 : tie.Need-returns-2
-returns-2 c = told-as _ _ _ _ _ (ap editNumbers (sym (c .before .before .before .r2 .given .1))) (c .put-unread .ensures)
+returns-2 c = rw (c .before .before .before .r2 .given .1) (c .put-unread .ensures)
 
 returns-3 : tie.Need-returns-3
-returns-3 c = told-as _ _ _ _ _ (ap editNumbers (sym (c .before .before .before .r3 .given .1))) (c .put-three .ensures)
+returns-3 c = rw (c .before .before .before .r3 .given .1) (c .put-three .ensures)
 
 returns-4 : tie.Need-returns-4
-returns-4 c = told-as _ _ _ _ _ (ap editNumbers (sym (c .before .before .before .r4 .given .1))) (c .put-three2 .ensures)
+returns-4 c = rw (c .before .before .before .r4 .given .1) (c .put-three2 .ensures)
 
 returns-5 : tie.Need-returns-5
-returns-5 c = told-as _ _ _ _ _ (ap editNumbers (sym (c .before .before .before .r5 .given .1))) (c .put-three3 .ensures)
+returns-5 c = rw (c .before .before .before .r5 .given .1) (c .put-three3 .ensures)
 
 returns-6 : tie.Need-returns-6
-returns-6 c = told-as _ _ _ _ _ (ap editNumbers (sym (c .before .before .before .r6 .given .1))) (c .put-three4 .ensures)
+returns-6 c = rw (c .before .before .before .r6 .given .1) (c .put-three4 .ensures)
 
 returns-7 : tie.Need-returns-7
-returns-7 c = told-as _ _ _ _ _ (ap editNumbers (sym (c .before .before .enum-told .given .1))) (c .put-one .ensures)
+returns-7 c = rw (c .before .before .enum-told .given .1) (c .put-one .ensures)
 
 returns-8 : tie.Need-returns-8
-returns-8 c = told-as _ _ _ _ _ (ap editNumbers (sym (c .before .before .enum-told2 .given .1))) (c .put-one2 .ensures)
+returns-8 c = rw (c .before .before .enum-told2 .given .1) (c .put-one2 .ensures)
 
 pub put-edit-spec : {M : Type 1} → statement M
 put-edit-spec =

@@ -1,8 +1,5 @@
 -- `page_replies::put_fresh` meets its contract.
 -- Assumes nothing.
-use mathlib.Core.Path.{sym, ap}
-use Rattle.page.specs.Answers.{freshNumbers}
-use Rattle.replies.proofs.Replies.{told-as}
 use borrow.Author.Needs.{needs}
 use Rattle.page_replies.proofs.put_fresh.Statement.{statement}
 use Rattle.page_replies.proofs.put_fresh.Tie as tie
@@ -20,10 +17,10 @@ put-three-requires : tie.Need-put-three-requires
 put-three-requires c κs = search needs
 
 returns : tie.Need-returns
-returns c = told-as _ _ _ _ _ (ap freshNumbers (sym (c .before .before .enum-told .given .1))) (c .put-four .ensures)
+returns c = rw (c .before .before .enum-told .given .1) (c .put-four .ensures)
 
 returns-2 : tie.Need-returns-2
-returns-2 c = told-as _ _ _ _ _ (ap freshNumbers (sym (c .before .before .before .r .given .1))) (c .put-three .ensures)
+returns-2 c = rw (c .before .before .before .r .given .1) (c .put-three .ensures)
 
 pub put-fresh-spec : {M : Type 1} → statement M
 put-fresh-spec =

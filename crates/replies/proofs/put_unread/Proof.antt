@@ -1,11 +1,7 @@
 -- `replies::put_unread` meets its contract.
 -- Assumes nothing.
-use mathlib.Core.Path.{sym, ap}
 use borrow.Author.Needs.{needs}
 use Rattle.rules.specs.Replies.{numberedUnread, failureWords}
-use Rattle.refusals.specs.Unreads.{unreadOf}
-use Rattle.refusals.specs.declared.Unread.{Unread}
-use Rattle.replies.proofs.Replies.{told-as}
 use Rattle.replies.proofs.put_unread.Statement.{statement}
 use Rattle.replies.proofs.put_unread.Tie as tie
 
@@ -41,19 +37,19 @@ put-two-requires-3 c κs = search needs
 
 returns : tie.Need-returns
 unfolding numberedUnread failureWords
-returns c = told-as _ _ _ _ _ (ap (λ (x : Unread). numberedUnread (unreadOf x)) (sym (c .before .before .before .u .given .1))) (c .put-two .ensures)
+returns c = rw (c .before .before .before .u .given .1) (c .put-two .ensures)
 
 returns-2 : tie.Need-returns-2
 unfolding numberedUnread failureWords
-returns-2 c = told-as _ _ _ _ _ (ap (λ (x : Unread). numberedUnread (unreadOf x)) (sym (c .before .before .before .u2 .given .1))) (c .put-two2 .ensures)
+returns-2 c = rw (c .before .before .before .u2 .given .1) (c .put-two2 .ensures)
 
 returns-3 : tie.Need-returns-3
 unfolding numberedUnread failureWords
-returns-3 c = told-as _ _ _ _ _ (ap (λ (x : Unread). numberedUnread (unreadOf x)) (sym (c .before .before .before .u3 .given .1))) (c .put-failure .ensures)
+returns-3 c = rw (c .before .before .before .u3 .given .1) (c .put-failure .ensures)
 
 returns-4 : tie.Need-returns-4
 unfolding numberedUnread failureWords
-returns-4 c = told-as _ _ _ _ _ (ap (λ (x : Unread). numberedUnread (unreadOf x)) (sym (c .before .before .before .u4 .given .1))) (c .put-two3 .ensures)
+returns-4 c = rw (c .before .before .before .u4 .given .1) (c .put-two3 .ensures)
 
 pub put-unread-spec : {M : Type 1} → statement M
 put-unread-spec =

@@ -1,11 +1,8 @@
--- `page_replies::put_read` meets its contract.
+-- `text_replies::put_read` meets its contract.
 -- Assumes nothing.
-use mathlib.Core.Path.{sym, ap}
-use Rattle.reading.specs.Answers.{readNumbers}
-use Rattle.replies.proofs.Replies.{told-as}
 use borrow.Author.Needs.{needs}
-use Rattle.page_replies.proofs.put_read.Statement.{statement}
-use Rattle.page_replies.proofs.put_read.Tie as tie
+use Rattle.text_replies.proofs.put_read.Statement.{statement}
+use Rattle.text_replies.proofs.put_read.Tie as tie
 
 enum-known-r : tie.Need-enum-known-r
 enum-known-r c = search needs
@@ -32,16 +29,16 @@ put-three-requires-2 : tie.Need-put-three-requires-2
 put-three-requires-2 c κs = search needs
 
 returns : tie.Need-returns
-returns c = told-as _ _ _ _ _ (ap readNumbers (sym (c .before .before .before .r .given .1))) (c .put-four .ensures)
+returns c = rw (c .before .before .before .r .given .1) (c .put-four .ensures)
 
 returns-2 : tie.Need-returns-2
-returns-2 c = told-as _ _ _ _ _ (ap readNumbers (sym (c .before .before .before .r2 .given .1))) (c .put-unread .ensures)
+returns-2 c = rw (c .before .before .before .r2 .given .1) (c .put-unread .ensures)
 
 returns-3 : tie.Need-returns-3
-returns-3 c = told-as _ _ _ _ _ (ap readNumbers (sym (c .before .before .before .r3 .given .1))) (c .put-three .ensures)
+returns-3 c = rw (c .before .before .before .r3 .given .1) (c .put-three .ensures)
 
 returns-4 : tie.Need-returns-4
-returns-4 c = told-as _ _ _ _ _ (ap readNumbers (sym (c .before .before .before .r4 .given .1))) (c .put-three2 .ensures)
+returns-4 c = rw (c .before .before .before .r4 .given .1) (c .put-three2 .ensures)
 
 pub put-read-spec : {M : Type 1} → statement M
 put-read-spec =

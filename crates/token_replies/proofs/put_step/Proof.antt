@@ -1,11 +1,8 @@
--- `query_replies::put_step` meets its contract.
+-- `token_replies::put_step` meets its contract.
 -- Assumes nothing.
-use mathlib.Core.Path.{sym, ap}
-use Rattle.tokens.specs.Answers.{stepNumbers}
-use Rattle.replies.proofs.Replies.{told-as}
 use borrow.Author.Needs.{needs}
-use Rattle.query_replies.proofs.put_step.Statement.{statement}
-use Rattle.query_replies.proofs.put_step.Tie as tie
+use Rattle.token_replies.proofs.put_step.Statement.{statement}
+use Rattle.token_replies.proofs.put_step.Tie as tie
 
 enum-known-r : tie.Need-enum-known-r
 enum-known-r c = search needs
@@ -20,10 +17,10 @@ put-three-requires : tie.Need-put-three-requires
 put-three-requires c κs = search needs
 
 returns : tie.Need-returns
-returns c = told-as _ _ _ _ _ (ap stepNumbers (sym (c .before .before .before .r .given .1))) (c .put-record .ensures)
+returns c = rw (c .before .before .before .r .given .1) (c .put-record .ensures)
 
 returns-2 : tie.Need-returns-2
-returns-2 c = told-as _ _ _ _ _ (ap stepNumbers (sym (c .before .before .before .r2 .given .1))) (c .put-three .ensures)
+returns-2 c = rw (c .before .before .before .r2 .given .1) (c .put-three .ensures)
 
 pub put-step-spec : {M : Type 1} → statement M
 put-step-spec =

@@ -1,11 +1,8 @@
--- `query_replies::put_column` meets its contract.
+-- `text_replies::put_column` meets its contract.
 -- Assumes nothing.
-use mathlib.Core.Path.{sym, ap}
-use Rattle.queries.specs.Answers.{columnNumbers}
-use Rattle.replies.proofs.Replies.{told-as}
 use borrow.Author.Needs.{needs}
-use Rattle.query_replies.proofs.put_column.Statement.{statement}
-use Rattle.query_replies.proofs.put_column.Tie as tie
+use Rattle.text_replies.proofs.put_column.Statement.{statement}
+use Rattle.text_replies.proofs.put_column.Tie as tie
 
 enum-known-r : tie.Need-enum-known-r
 enum-known-r c = search needs
@@ -26,13 +23,13 @@ put-one-requires : tie.Need-put-one-requires
 put-one-requires c κs = search needs
 
 returns : tie.Need-returns
-returns c = told-as _ _ _ _ _ (ap columnNumbers (sym (c .before .before .before .r .given .1))) (c .put-two .ensures)
+returns c = rw (c .before .before .before .r .given .1) (c .put-two .ensures)
 
 returns-2 : tie.Need-returns-2
-returns-2 c = told-as _ _ _ _ _ (ap columnNumbers (sym (c .before .before .before .r2 .given .1))) (c .put-unread .ensures)
+returns-2 c = rw (c .before .before .before .r2 .given .1) (c .put-unread .ensures)
 
 returns-3 : tie.Need-returns-3
-returns-3 c = told-as _ _ _ _ _ (ap columnNumbers (sym (c .before .before .enum-told .given .1))) (c .put-one .ensures)
+returns-3 c = rw (c .before .before .enum-told .given .1) (c .put-one .ensures)
 
 pub put-column-spec : {M : Type 1} → statement M
 put-column-spec =

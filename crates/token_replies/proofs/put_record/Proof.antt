@@ -1,8 +1,8 @@
--- `query_replies::put_record` meets its contract.
+-- `token_replies::put_record` meets its contract.
 -- Assumes nothing.
 use borrow.Author.Needs.{needs}
-use Rattle.query_replies.proofs.put_record.Statement.{statement}
-use Rattle.query_replies.proofs.put_record.Tie as tie
+use Rattle.token_replies.proofs.put_record.Statement.{statement}
+use Rattle.token_replies.proofs.put_record.Tie as tie
 
 element-write-reply : tie.Need-element-write-reply
 element-write-reply c = search needs

@@ -1,11 +1,8 @@
--- `query_replies::put_part` meets its contract.
+-- `token_replies::put_part` meets its contract.
 -- Assumes nothing.
-use mathlib.Core.Path.{sym, ap}
-use Rattle.tokens.specs.Answers.{partNumbers}
-use Rattle.replies.proofs.Replies.{told-as}
 use borrow.Author.Needs.{needs}
-use Rattle.query_replies.proofs.put_part.Statement.{statement}
-use Rattle.query_replies.proofs.put_part.Tie as tie
+use Rattle.token_replies.proofs.put_part.Statement.{statement}
+use Rattle.token_replies.proofs.put_part.Tie as tie
 
 enum-known-r : tie.Need-enum-known-r
 enum-known-r c = search needs
@@ -38,19 +35,19 @@ put-three-requires : tie.Need-put-three-requires
 put-three-requires c κs = search needs
 
 returns : tie.Need-returns
-returns c = told-as _ _ _ _ _ (ap partNumbers (sym (c .before .before .before .r .given .1))) (c .put-four .ensures)
+returns c = rw (c .before .before .before .r .given .1) (c .put-four .ensures)
 
 returns-2 : tie.Need-returns-2
-returns-2 c = told-as _ _ _ _ _ (ap partNumbers (sym (c .before .before .before .r2 .given .1))) (c .put-four2 .ensures)
+returns-2 c = rw (c .before .before .before .r2 .given .1) (c .put-four2 .ensures)
 
 returns-3 : tie.Need-returns-3
-returns-3 c = told-as _ _ _ _ _ (ap partNumbers (sym (c .before .before .enum-told .given .1))) (c .put-one .ensures)
+returns-3 c = rw (c .before .before .enum-told .given .1) (c .put-one .ensures)
 
 returns-4 : tie.Need-returns-4
-returns-4 c = told-as _ _ _ _ _ (ap partNumbers (sym (c .before .before .enum-told2 .given .1))) (c .put-one2 .ensures)
+returns-4 c = rw (c .before .before .enum-told2 .given .1) (c .put-one2 .ensures)
 
 returns-5 : tie.Need-returns-5
-returns-5 c = told-as _ _ _ _ _ (ap partNumbers (sym (c .before .before .before .r3 .given .1))) (c .put-three .ensures)
+returns-5 c = rw (c .before .before .before .r3 .given .1) (c .put-three .ensures)
 
 pub put-part-spec : {M : Type 1} → statement M
 put-part-spec =

@@ -1,11 +1,8 @@
--- `query_replies::put_value` meets its contract.
+-- `text_replies::put_value` meets its contract.
 -- Assumes nothing.
-use mathlib.Core.Path.{sym, ap}
-use Rattle.queries.specs.Answers.{valueNumbers}
-use Rattle.replies.proofs.Replies.{told-as}
 use borrow.Author.Needs.{needs}
-use Rattle.query_replies.proofs.put_value.Statement.{statement}
-use Rattle.query_replies.proofs.put_value.Tie as tie
+use Rattle.text_replies.proofs.put_value.Statement.{statement}
+use Rattle.text_replies.proofs.put_value.Tie as tie
 
 enum-known-r : tie.Need-enum-known-r
 enum-known-r c = search needs
@@ -29,13 +26,13 @@ put-unread-requires : tie.Need-put-unread-requires
 put-unread-requires c κs = search needs
 
 returns : tie.Need-returns
-returns c = told-as _ _ _ _ _ (ap valueNumbers (sym (c .before .before .before .r .given .1))) (c .put-three .ensures)
+returns c = rw (c .before .before .before .r .given .1) (c .put-three .ensures)
 
 returns-2 : tie.Need-returns-2
-returns-2 c = told-as _ _ _ _ _ (ap valueNumbers (sym (c .before .before .enum-told .given .1))) (c .put-two .ensures)
+returns-2 c = rw (c .before .before .enum-told .given .1) (c .put-two .ensures)
 
 returns-3 : tie.Need-returns-3
-returns-3 c = told-as _ _ _ _ _ (ap valueNumbers (sym (c .before .before .before .r2 .given .1))) (c .put-unread .ensures)
+returns-3 c = rw (c .before .before .before .r2 .given .1) (c .put-unread .ensures)
 
 pub put-value-spec : {M : Type 1} → statement M
 put-value-spec =

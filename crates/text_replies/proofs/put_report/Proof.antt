@@ -1,11 +1,8 @@
--- `page_replies::put_report` meets its contract.
+-- `text_replies::put_report` meets its contract.
 -- Assumes nothing.
-use mathlib.Core.Path.{sym, ap}
-use Rattle.report.specs.Answers.{reportNumbers}
-use Rattle.replies.proofs.Replies.{told-as}
 use borrow.Author.Needs.{needs}
-use Rattle.page_replies.proofs.put_report.Statement.{statement}
-use Rattle.page_replies.proofs.put_report.Tie as tie
+use Rattle.text_replies.proofs.put_report.Statement.{statement}
+use Rattle.text_replies.proofs.put_report.Tie as tie
 
 enum-known-r : tie.Need-enum-known-r
 enum-known-r c = search needs
@@ -26,13 +23,13 @@ put-three-requires : tie.Need-put-three-requires
 put-three-requires c κs = search needs
 
 returns : tie.Need-returns
-returns c = told-as _ _ _ _ _ (ap reportNumbers (sym (c .before .before .before .r .given .1))) (c .put-two .ensures)
+returns c = rw (c .before .before .before .r .given .1) (c .put-two .ensures)
 
 returns-2 : tie.Need-returns-2
-returns-2 c = told-as _ _ _ _ _ (ap reportNumbers (sym (c .before .before .before .r2 .given .1))) (c .put-unread .ensures)
+returns-2 c = rw (c .before .before .before .r2 .given .1) (c .put-unread .ensures)
 
 returns-3 : tie.Need-returns-3
-returns-3 c = told-as _ _ _ _ _ (ap reportNumbers (sym (c .before .before .before .r3 .given .1))) (c .put-three .ensures)
+returns-3 c = rw (c .before .before .before .r3 .given .1) (c .put-three .ensures)
 
 pub put-report-spec : {M : Type 1} → statement M
 put-report-spec =

@@ -1,11 +1,8 @@
--- `query_replies::put_check` meets its contract.
+-- `page_replies::put_check` meets its contract.
 -- Assumes nothing.
-use mathlib.Core.Path.{sym, ap}
-use Rattle.checking.specs.Answers.{checkNumbers}
-use Rattle.replies.proofs.Replies.{told-as}
 use borrow.Author.Needs.{needs}
-use Rattle.query_replies.proofs.put_check.Statement.{statement}
-use Rattle.query_replies.proofs.put_check.Tie as tie
+use Rattle.page_replies.proofs.put_check.Statement.{statement}
+use Rattle.page_replies.proofs.put_check.Tie as tie
 
 enum-told : tie.Need-enum-told
 enum-told c = search needs
@@ -26,13 +23,13 @@ put-one-requires : tie.Need-put-one-requires
 put-one-requires c κs = search needs
 
 returns : tie.Need-returns
-returns c = told-as _ _ _ _ _ (ap checkNumbers (sym (c .before .before .enum-told .given .1))) (c .put-two .ensures)
+returns c = rw (c .before .before .enum-told .given .1) (c .put-two .ensures)
 
 returns-2 : tie.Need-returns-2
-returns-2 c = told-as _ _ _ _ _ (ap checkNumbers (sym (c .before .before .enum-told2 .given .1))) (c .put-two2 .ensures)
+returns-2 c = rw (c .before .before .enum-told2 .given .1) (c .put-two2 .ensures)
 
 returns-3 : tie.Need-returns-3
-returns-3 c = told-as _ _ _ _ _ (ap checkNumbers (sym (c .before .before .enum-told3 .given .1))) (c .put-one .ensures)
+returns-3 c = rw (c .before .before .enum-told3 .given .1) (c .put-one .ensures)
 
 pub put-check-spec : {M : Type 1} → statement M
 put-check-spec =
