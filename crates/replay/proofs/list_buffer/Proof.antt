@@ -7,7 +7,7 @@ use Rattle.replay.proofs.list_buffer.Statement.{statement}
 use Rattle.replay.proofs.list_buffer.Tie as tie
 
 returns : tie.Need-returns
-returns c = sym (length-replicate {0} {A = ℕ} 524_288 0)
+returns c = sym (length-replicate {0} {A = ℕ} 2_097_152 0)
 
 pub list-buffer-spec : {M : Type 1} → statement M
 list-buffer-spec = tie.close (tie.spec returns)

@@ -10,8 +10,11 @@ use Rattle.replay_calls.proofs.past_answers.Tie as tie
 field-end-requires : tie.Need-field-end-requires
 field-end-requires c κs = search needs
 
-slice-aggregate-call : tie.Need-slice-aggregate-call
-slice-aggregate-call c = sym (length-take-le _ _ (omega arith))
+slice-aggregate-function-of : tie.Need-slice-aggregate-function-of
+slice-aggregate-function-of c = sym (length-take-le _ _ (omega arith))
+
+function-of-requires : tie.Need-function-of-requires
+function-of-requires c κs = search needs
 
 call-requires : tie.Need-call-requires
 call-requires c κs = search needs
@@ -45,7 +48,8 @@ past-answers-spec =
     tie.close
     (tie.spec
     field-end-requires
-    slice-aggregate-call
+    slice-aggregate-function-of
+    function-of-requires
     call-requires
     past-reply-requires
     past-digests-requires

@@ -2,23 +2,25 @@
 -- Assumes nothing.
 use Prim.Native.Nat.{_+_, _-_, _≤_}
 use mathlib.Core.Path.{_≡_}
-use native.Mathlib.Omega.{arith}
 use lib.ListN.{length}
 use borrow.Author.Needs.{needs}
 use Rattle.replay_calls.proofs.replay_lines.Statement.{statement}
 use Rattle.replay_calls.proofs.replay_lines.Tie as tie
 
 abbrev Inv-loop : tie.InvT-loop
-Inv-loop list first₀ second₀ third₀ left₀ right₀ t₀ at₀ first second third left right t at = ((at ≤ length list + 1) × (t .passed + t .failed ≤ at)) × ((length first ≡ length first₀) × (length second ≡ length second₀) × (length third ≡ length third₀) × (length left ≡ length left₀) × (length right ≡ length right₀))
+Inv-loop list first₀ second₀ third₀ left₀ right₀ t₀ first second third left right t = ((t .at ≤ length list + 1) × (t .passed + t .failed ≤ t .at)) × ((length first ≡ length first₀) × (length second ≡ length second₀) × (length third ≡ length third₀) × (length left ≡ length left₀) × (length right ≡ length right₀))
 
 abbrev μ-loop : tie.MeasureT-loop
-μ-loop list first₀ second₀ third₀ left₀ right₀ t₀ at₀ first second third left right t at = (length list + 1) - at
+μ-loop list first₀ second₀ third₀ left₀ right₀ t₀ first second third left right t = (length list + 1) - t .at
+
+no-lines-requires : tie.Need-no-lines-requires Inv-loop μ-loop
+no-lines-requires c κs = search needs
 
 loop-holds : tie.Need-loop-holds Inv-loop μ-loop
 loop-holds c = search needs
 
-find-requires : tie.Need-find-requires Inv-loop μ-loop
-find-requires c κs = search needs
+line-end-requires : tie.Need-line-end-requires Inv-loop μ-loop
+line-end-requires c κs = search needs
 
 sub-agrees : tie.Need-sub-agrees Inv-loop μ-loop
 sub-agrees c = search needs
@@ -32,11 +34,8 @@ part-agrees-end c = search needs
 agrees-requires : tie.Need-agrees-requires Inv-loop μ-loop
 agrees-requires c κs = search needs
 
-counted-requires : tie.Need-counted-requires Inv-loop μ-loop
-counted-requires c κs = search needs
-
-add-at : tie.Need-add-at Inv-loop μ-loop
-add-at c = search needs
+past-line-requires : tie.Need-past-line-requires Inv-loop μ-loop
+past-line-requires c κs = search needs
 
 loop-less : tie.Need-loop-less Inv-loop μ-loop
 loop-less c = search needs
@@ -68,14 +67,14 @@ replay-lines-spec =
     (tie.spec
     Inv-loop
     μ-loop
+    no-lines-requires
     loop-holds
-    find-requires
+    line-end-requires
     sub-agrees
     part-agrees-start
     part-agrees-end
     agrees-requires
-    counted-requires
-    add-at
+    past-line-requires
     loop-less
     loop-again
     same-length

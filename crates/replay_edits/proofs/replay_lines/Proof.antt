@@ -1,19 +1,23 @@
 -- `replay_edits::replay_lines` is safe and ends: at most as many lines are counted as bytes are passed.
 -- Assumes nothing.
-use Prim.Native.Nat.{ℕ, _+_, _-_, _≤_, _<_}
+use Prim.Native.Nat.{ℕ, _+_, _-_, _≤_}
 use mathlib.Core.Path.{_≡_, _∙_}
 use mathlib.Core.List.{List}
 use native.Mathlib.Omega.{arith}
+use Rattle.replay.specs.declared.Tally.{Tally}
 use lib.ListN.{length}
 use borrow.Author.Needs.{needs}
 use Rattle.replay_edits.proofs.replay_lines.Statement.{statement}
 use Rattle.replay_edits.proofs.replay_lines.Tie as tie
 
 abbrev Inv-loop : tie.InvT-loop
-Inv-loop list edits₀ bytes₀ text₀ spare₀ lines₀ tokens₀ t₀ h₀ at₀ edits bytes text spare lines tokens t h at = ((at ≤ length list + 1) × (t .passed + t .failed ≤ at)) × ((length edits ≡ length edits₀) × (length bytes ≡ length bytes₀) × (length text ≡ length text₀) × (length spare ≡ length spare₀) × (length lines ≡ length lines₀) × (length tokens ≡ length tokens₀))
+Inv-loop list edits₀ bytes₀ text₀ spare₀ lines₀ tokens₀ t₀ h₀ edits bytes text spare lines tokens t h = ((t .at ≤ length list + 1) × (t .passed + t .failed ≤ t .at)) × ((length edits ≡ length edits₀) × (length bytes ≡ length bytes₀) × (length text ≡ length text₀) × (length spare ≡ length spare₀) × (length lines ≡ length lines₀) × (length tokens ≡ length tokens₀))
 
 abbrev μ-loop : tie.MeasureT-loop
-μ-loop list edits₀ bytes₀ text₀ spare₀ lines₀ tokens₀ t₀ h₀ at₀ edits bytes text spare lines tokens t h at = (length list + 1) - at
+μ-loop list edits₀ bytes₀ text₀ spare₀ lines₀ tokens₀ t₀ h₀ edits bytes text spare lines tokens t h = (length list + 1) - t .at
+
+no-lines-requires : tie.Need-no-lines-requires Inv-loop μ-loop
+no-lines-requires c κs = search needs
 
 slice-aggregate-with-page : tie.Need-slice-aggregate-with-page Inv-loop μ-loop
 slice-aggregate-with-page c = search needs
@@ -21,24 +25,29 @@ slice-aggregate-with-page c = search needs
 with-page-requires : tie.Need-with-page-requires Inv-loop μ-loop
 with-page-requires c κs = search needs
 
--- the list, and the place at a line's end
-abbrev list-at : tie.After-find Inv-loop μ-loop → List ℕ
-list-at f = f .before .before .before .before .before .before .before .before .before .before .before .before .args .list .now
+-- at a line's end: the list and the tally; that end lies in the list, and so few lines are counted
+module _ (e : tie.After-line-end Inv-loop μ-loop) where
+  abbrev list : List ℕ
+  list = e .before .before .before .before .before .before .before .before .before .before .before .before .before .before .args .list .now
 
-abbrev found : tie.After-counted Inv-loop μ-loop → tie.After-find Inv-loop μ-loop
-found c = c .before .before .before .before .before .before .before .before .before .before .before .before .before .before .before .before .before .before .before .before .before .before
+  abbrev t : Tally
+  t = e .before .before .before .loop .t
 
--- that end lies in the list, and so few lines are counted
-in-list : (f : tie.After-find Inv-loop μ-loop)
-    → (f .before .before .loop .at ≤ f .find .result) × (f .find .result ≤ length (list-at f))
-    × (length (list-at f) < 4_294_967_295) × (f .before .before .loop .t .passed + f .before .before .loop .t .failed ≤ f .before .before .loop .at)
-in-list f = (f .find .ensures .0, f .find .ensures .1, f .before .before .before .before .before .before .before .before .before .before .before .before .pre, f .before .before .loop .inv .0 .1)
+  in-list : (t .passed + t .failed ≤ t .at) × (t .at ≤ e .line-end .result) × (e .line-end .result ≤ length list) × (length list ≤ 4_294_967_295)
+  in-list = (e .before .before .before .loop .inv .0 .1, e .line-end .ensures .0, e .line-end .ensures .1, e .before .before .before .before .before .before .before .before .before .before .before .before .before .before .pre)
+
+-- the place at which a line is replayed, and its end
+abbrev replayed : tie.After-struct-known2 Inv-loop μ-loop → tie.After-after-line Inv-loop μ-loop
+replayed c = c .before .before .before .before .before .before .before .before .before .before .before .before .before
+
+abbrev ended : tie.After-struct-known2 Inv-loop μ-loop → tie.After-line-end Inv-loop μ-loop
+ended c = replayed c .before .before .before .before .before .before .before .before
 
 loop-holds : tie.Need-loop-holds Inv-loop μ-loop
 loop-holds c = search needs
 
-find-requires : tie.Need-find-requires Inv-loop μ-loop
-find-requires c κs = search needs
+line-end-requires : tie.Need-line-end-requires Inv-loop μ-loop
+line-end-requires c κs = search needs
 
 sub-after-line : tie.Need-sub-after-line Inv-loop μ-loop
 sub-after-line c = search needs
@@ -52,32 +61,26 @@ part-after-line-end c = search needs
 after-line-requires : tie.Need-after-line-requires Inv-loop μ-loop
 after-line-requires c κs = search needs
 
-sub-counted : tie.Need-sub-counted Inv-loop μ-loop
-sub-counted c = search needs
+sub-past-line : tie.Need-sub-past-line Inv-loop μ-loop
+sub-past-line c = search needs
 
-counted-requires : tie.Need-counted-requires Inv-loop μ-loop
-counted-requires c κs =
-    let b = in-list (c .before .before .before .before .before .before .before .before .before .before .before .before .before .before .before .before .before .before .before .before .before) in
-    omega (arith, b .0, b .1, b .2, b .3)
-
-add-at : tie.Need-add-at Inv-loop μ-loop
-add-at c =
-    let b = in-list (found c) in
-    omega (arith, b .1, b .2)
+past-line-requires : tie.Need-past-line-requires Inv-loop μ-loop
+past-line-requires c κs =
+    let b = in-list (ended c) in
+    (b .0, b .1, omega (arith, b .2, b .3))
 
 loop-less : tie.Need-loop-less Inv-loop μ-loop
 loop-less c =
-    let b = in-list (found c) in
-    omega (arith, b .0, b .1)
+    let b = in-list (ended (c .before)) in
+    omega (arith, c .past-line .ensures, b .1, b .2)
 
 loop-again : tie.Need-loop-again Inv-loop μ-loop
 loop-again c =
-    let f = found c in
-    let b = in-list f in
-    let a = c .before .before .before .before .before .before .before .before .before .before .before .before .before .before .after-line in
-    let i = f .before .before .loop .inv in (
-      (omega (arith, b .1), omega (arith, c .counted .ensures, b .0, b .3)),
-      (a .kept .1 .1 .0 ∙ i .1 .0, a .kept .1 .1 .1 .0 ∙ i .1 .1, a .kept .1 .1 .1 .1 .0 ∙ i .1 .2, a .kept .1 .1 .1 .1 .1 .0 ∙ i .1 .3, a .kept .1 .1 .1 .1 .1 .1 .0 ∙ i .1 .4, a .kept .1 .1 .1 .1 .1 .1 .1 .0 ∙ i .1 .5),
+    let b = in-list (ended (c .before)) in
+    let a = replayed (c .before) .after-line in
+    let i = ended (c .before) .before .before .before .loop .inv .1 in (
+      (omega (arith, c .past-line .ensures, b .2), c .past-line .ensures .0),
+      (a .kept .1 .1 .0 ∙ i .0, a .kept .1 .1 .1 .0 ∙ i .1, a .kept .1 .1 .1 .1 .0 ∙ i .2, a .kept .1 .1 .1 .1 .1 .0 ∙ i .3, a .kept .1 .1 .1 .1 .1 .1 .0 ∙ i .4, a .kept .1 .1 .1 .1 .1 .1 .1 .0 ∙ i .5),
     )
 
 same-length : tie.Need-same-length Inv-loop μ-loop
@@ -107,17 +110,17 @@ replay-lines-spec =
     (tie.spec
     Inv-loop
     μ-loop
+    no-lines-requires
     slice-aggregate-with-page
     with-page-requires
     loop-holds
-    find-requires
+    line-end-requires
     sub-after-line
     part-after-line-start
     part-after-line-end
     after-line-requires
-    sub-counted
-    counted-requires
-    add-at
+    sub-past-line
+    past-line-requires
     loop-less
     loop-again
     same-length

@@ -1,22 +1,25 @@
 -- `replay_texts::replay_lines` is safe and ends: at most as many cases are counted as bytes are passed.
 -- Assumes nothing.
 use Prim.Native.Nat.{_+_, _-_, _≤_}
-use borrow.Author.Needs.{needs}
 use lib.ListN.{length}
+use borrow.Author.Needs.{needs}
 use Rattle.replay_texts.proofs.replay_lines.Statement.{statement}
 use Rattle.replay_texts.proofs.replay_lines.Tie as tie
 
 abbrev Inv-loop : tie.InvT-loop
-Inv-loop list t₀ at₀ t at = (at ≤ length list + 1) × (t .passed + t .failed ≤ at)
+Inv-loop list t₀ t = (t .at ≤ length list + 1) × (t .passed + t .failed ≤ t .at)
 
 abbrev μ-loop : tie.MeasureT-loop
-μ-loop list t₀ at₀ t at = (length list + 1) - at
+μ-loop list t₀ t = (length list + 1) - t .at
+
+no-lines-requires : tie.Need-no-lines-requires Inv-loop μ-loop
+no-lines-requires c κs = search needs
 
 loop-holds : tie.Need-loop-holds Inv-loop μ-loop
 loop-holds c = search needs
 
-find-requires : tie.Need-find-requires Inv-loop μ-loop
-find-requires c κs = search needs
+line-end-requires : tie.Need-line-end-requires Inv-loop μ-loop
+line-end-requires c κs = search needs
 
 sub-agrees : tie.Need-sub-agrees Inv-loop μ-loop
 sub-agrees c = search needs
@@ -30,11 +33,8 @@ part-agrees-end c = search needs
 agrees-requires : tie.Need-agrees-requires Inv-loop μ-loop
 agrees-requires c κs = search needs
 
-counted-requires : tie.Need-counted-requires Inv-loop μ-loop
-counted-requires c κs = search needs
-
-add-at : tie.Need-add-at Inv-loop μ-loop
-add-at c = search needs
+past-line-requires : tie.Need-past-line-requires Inv-loop μ-loop
+past-line-requires c κs = search needs
 
 loop-less : tie.Need-loop-less Inv-loop μ-loop
 loop-less c = search needs
@@ -51,14 +51,14 @@ replay-lines-spec =
     (tie.spec
     Inv-loop
     μ-loop
+    no-lines-requires
     loop-holds
-    find-requires
+    line-end-requires
     sub-agrees
     part-agrees-start
     part-agrees-end
     agrees-requires
-    counted-requires
-    add-at
+    past-line-requires
     loop-less
     loop-again
     returns)
