@@ -1,17 +1,16 @@
 -- The records that a plan leaves on a faithful page are those of the edited text.
 -- Assumes nothing.
-use Prim.Native.Nat.{ℕ, zero, suc, _+_, _-_, _*_, _≤_, _<_}
-use mathlib.Core.Path.{_≡_, refl, sym, ap, subst, _∙_}
+use Prim.Native.Nat.{ℕ, _+_, _-_, _*_, _≤_}
+use mathlib.Core.Path.{_≡_, sym, ap, subst, _∙_}
 use mathlib.Core.List.{List, [], _∷_, _++_}
 use native.Mathlib.Omega.{arith}
 use native.Mathlib.Nat.{zero-add}
 use lib.ListN.{length, take, drop, length-append, length-drop, take-append-drop}
 use lib.Seq.{take-take, drop-append-le, length-take-le}
-use Rattle.rules.specs.Line.{State}
 use Rattle.rules.specs.Reading.{Entry, byteSum, tokenSum}
 use Rattle.rules.specs.Limits.{bargeLine}
-use Rattle.rules.specs.Records.{lineSize, tokenSize, lineNeed, tokenNeed, lineRecords, tokenRecords, endEntry, withEnd, Records, recordsOf, recordedBy, recorded, readLines, Behind}
-use Rattle.rules.specs.Page.{pageText, pageRecords}
+use Rattle.rules.specs.Records.{lineSize, tokenSize, lineNeed, tokenNeed, lineRecords, tokenRecords, endEntry, withEnd, Records, recordsOf, recordedBy, readLines, Behind}
+use Rattle.rules.specs.Page.{pageRecords}
 use Rattle.rules.specs.StopRule.{Edit, edited}
 use Rattle.rules.proofs.ReadingLaws.{tokenSum-append}
 use Rattle.rules.proofs.RecordLaws.{lineRecords-append, lineRecords-take, lineRecords-drop, length-lineRecords, tokenRecords-append, tokenRecords-take, tokenRecords-drop, length-tokenRecords}
@@ -22,7 +21,7 @@ use Rattle.moving.proofs.Shifts.{all-right, moved-line-records, moved-token-rec
 use Rattle.plans.specs.Plans.{Planned, Mends}
 use Rattle.plans.specs.declared.Plan.{Plan}
 use Rattle.writing.proofs.Writes.{written-sizes}
-use Rattle.writing.specs.Writes.{written, lineTail, tokenTail, writtenLines, writtenTokens}
+use Rattle.writing.specs.Writes.{written, writtenLines, writtenTokens}
 
 -- where two lists that begin a buffer are cut
 cut-tail : (ws front : List ℕ) (n at : ℕ) → take n ws ≡ front → at ≤ length front → drop at ws ≡ drop at front ++ drop n ws

@@ -3,7 +3,7 @@
 use Prim.Native.Nat.{ℕ, _-_}
 use mathlib.Core.List.{List, [], _∷_}
 use Rattle.rules.specs.Replies.{Reply, numberedUnread, textBuffer, spareBuffer, linesBuffer, tokensBuffer}
-use Rattle.rules.specs.Records.{Header, header}
+use Rattle.rules.specs.Records.{Header}
 use Rattle.rules.specs.Page.{Lent, headerAfter}
 use Rattle.refusals.specs.Unreads.{unreadOf}
 use Rattle.plans.specs.Plans.{linesAfter, tokensAfter}

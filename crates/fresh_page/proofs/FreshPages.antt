@@ -1,11 +1,11 @@
 -- The fresh page's reply and words.
 -- Assumes nothing.
-use Prim.Native.Nat.{ℕ, _+_, _≤_, _<_}
-use mathlib.Core.Path.{_≡_, refl, sym, ap, _∙_}
+use Prim.Native.Nat.{ℕ, _≤_, _<_}
+use mathlib.Core.Path.{_≡_, refl}
 use mathlib.Core.List.{List, [], _∷_}
 use lib.ListN.{length, replicate}
 use borrow.Author.Tests.{lt-ltb, le-ltb}
-use Rattle.rules.specs.Lists.{if_then_else_, overwrite}
+use Rattle.rules.specs.Lists.{overwrite}
 use Rattle.rules.specs.Replies.{numbered, linesBuffer, refusedIf, unless}
 use Rattle.rules.specs.Records.{lineSize}
 use Rattle.rules.specs.Page.{freshReply, freshLines}

@@ -1,6 +1,6 @@
 -- A list of edits, one more each time.
 -- Assumes nothing.
-use Prim.Native.Nat.{ℕ, zero, suc, _+_, _-_, _*_, _≤_, _<_, min}
+use Prim.Native.Nat.{ℕ, zero, suc, _+_, _-_, _≤_, _<_, min}
 use mathlib.Core.Path.{_≡_, refl, sym, ap, subst, _∙_}
 use mathlib.Core.List.{List, [], _∷_, _++_}
 use native.Mathlib.Omega.{arith}
@@ -14,14 +14,14 @@ use denote.Enum.Declared.{tagOf}
 use Rattle.editing.proofs.EditAnswer.{the-type}
 use Rattle.laws.specs.Blocks.{table}
 use Rattle.rules.specs.Lists.{overwrite}
-use Rattle.rules.specs.Limits.{maxBytes, barge, bargeLine}
-use Rattle.rules.specs.Replies.{Reply, accepted, isTooLong}
+use Rattle.rules.specs.Limits.{bargeLine}
+use Rattle.rules.specs.Replies.{Reply}
 use Rattle.rules.specs.Records.{lineSize, Header, header}
-use Rattle.rules.specs.Page.{Page, Lent, Sizes, sizes, headerAfter, pageRecords, pageText, freshReply, freshLines, freshLent}
+use Rattle.rules.specs.Page.{Lent, Sizes, sizes, headerAfter, freshReply, freshLines, freshLent}
 use Rattle.rules.specs.StopRule.{Edit}
 use Rattle.rules.specs.Edit.{EditPost}
-use Rattle.rules.specs.History.{Chain, none, call, Holds, Agrees, paperText}
-use Rattle.rules.proofs.BoundLaws.{Small, fresh-small}
+use Rattle.rules.specs.History.{Chain, none, call, Holds, Agrees}
+use Rattle.rules.proofs.BoundLaws.{fresh-small}
 use Rattle.rules.proofs.PageLaws.{unread-kept, fresh-inverse}
 use Rattle.refusals.specs.Unreads.{unreadOf}
 use Rattle.editing.specs.Answers.{editNumbers, lent, lentAfter}

@@ -1,8 +1,8 @@
 -- A lent list of edits, and the last reply.
 -- Assumes nothing.
-use Prim.Native.Nat.{ℕ, zero, suc, _+_, _-_, _*_, _≤_}
+use Prim.Native.Nat.{ℕ, _+_, _-_, _*_, _≤_}
 use mathlib.Core.List.{List, [], _∷_}
-use lib.ListN.{length, getD, take, drop}
+use lib.ListN.{getD, take, drop}
 use Rattle.laws.specs.Blocks.{table}
 use Rattle.rules.specs.Replies.{Reply, accepted}
 use mathlib.Core.Path.{_≡_}

@@ -1,14 +1,13 @@
 // A list of edits applied to the fresh page.
 ghost use mathlib.Core.Path.{_≡_};
-ghost use mathlib.Core.List.{List, []};
+ghost use mathlib.Core.List.{[]};
 ghost use Prim.Native.Nat.{_+_, _-_, _*_, _≤_, _<_, _/_, min};
-ghost use lib.ListN.{length, getD, take, drop};
-ghost use Rattle.rules.specs.Replies.{Reply};
+ghost use lib.ListN.{length, getD};
 ghost use Rattle.rules.specs.Records.{lineSize, header};
 ghost use Rattle.rules.specs.Page.{headerAfter, freshReply};
 ghost use Rattle.rules.specs.Edit.{EditPost};
 ghost use Rattle.editing.specs.Answers.{editNumbers, lent, lentAfter};
-ghost use Rattle.history.specs.Lists.{editAt, editsOf, lastReply, SmallAnswer, Happened};
+ghost use Rattle.history.specs.Lists.{editAt, editsOf, SmallAnswer, Happened};
 
 // A header, and the answer of the last edit.
 pub struct Outcome {

@@ -1,10 +1,10 @@
 -- The codes of the details, by computation over their table.
 -- Assumes nothing.
-use Prim.Native.Nat.{ℕ, zero, suc, _<_, _≤_, pred}
-use mathlib.Core.Path.{_≡_, refl, sym, ap, _∙_}
+use Prim.Native.Nat.{ℕ, zero, suc, _<_, _≤_}
+use mathlib.Core.Path.{_≡_, refl, sym, ap}
 use mathlib.Core.List.{List, [], _∷_}
 use native.Mathlib.Omega.{arith}
-use lib.Dec.{eqb, T, eqb→eq}
+use lib.Dec.{eqb, eqb→eq}
 use lib.ListN.{length, getD}
 use Rattle.rules.specs.Failure.{Detail, details, detailOf}
 use Rattle.laws.proofs.Below as below

@@ -1,6 +1,6 @@
 -- A pass over all lines of a text: what reading on may do, and the end.
 -- Assumes nothing.
-use Prim.Native.Nat.{ℕ, suc, _+_, _*_, _≤_, _<_}
+use Prim.Native.Nat.{ℕ, _+_, _*_, _≤_}
 use mathlib.Core.Path.{_≡_, refl, sym, ap, subst, _∙_}
 use mathlib.Core.Bool.{Bool, true}
 use mathlib.Core.List.{List, [], _∷_, _++_, append-nil}
@@ -10,9 +10,9 @@ use lib.ListN.{length, take, drop, length-replicate, drop-of-length-le}
 use lib.Seq.{length-take-le}
 use Rattle.rules.specs.Limits.{maxLevels, LineLimits}
 use Rattle.rules.specs.Line as rules-line
-use Rattle.rules.specs.Line.{initial, tokenAt, dedents, Halt}
+use Rattle.rules.specs.Line.{initial, tokenAt, dedents}
 use Rattle.rules.specs.Reading.{Line, linesOf, Entry, Reading, reads, halts, readFrom, linesRead, byteSum, tokenSum}
-use Rattle.rules.specs.Records.{lineSize, tokenSize, lineRecord, lineRecords, tokenWords, tokenRecords, endEntry, withEnd, recordsOf, unread, recordedBy, readLines, haltRefusal}
+use Rattle.rules.specs.Records.{lineSize, tokenSize, lineRecord, lineRecords, tokenWords, tokenRecords, endEntry, withEnd, recordsOf, recordedBy, readLines}
 use Rattle.rules.proofs.LineLaws.{total-lines}
 use Rattle.rules.proofs.ReadingLaws.{read-sizes, tokenSum-append}
 use Rattle.rules.proofs.LoopLaws.{ReadTo}
@@ -21,7 +21,6 @@ use Rattle.laws.specs.Puts.{putIf}
 use Rattle.laws.proofs.Puts.{putIf-by}
 use Rattle.records.specs.declared.State.{State}
 use Rattle.records.specs.States.{stateOf}
-use Rattle.refusals.specs.Unreads.{unreadIn}
 use Rattle.refusals.specs.declared.Unread.{Unread}
 use Rattle.rereading.specs.declared.ReadToEnd.the-variants.{Ends}
 use Rattle.rereading.specs.Rereads.{HaltsAs}

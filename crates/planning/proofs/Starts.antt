@@ -1,19 +1,19 @@
 -- Laws of LFs counted, and of a record's words tested one after the other.
 -- Assumes nothing.
-use Prim.Native.Nat.{ℕ, zero, suc, _+_, _*_, _≤_, _<_}
+use Prim.Native.Nat.{ℕ, suc, _+_, _≤_, _<_}
 use mathlib.Core.Path.{_≡_, refl, sym, ap, _∙_}
-use mathlib.Core.Bool.{Bool, true, false, _&&_}
+use mathlib.Core.Bool.{Bool, true, false}
 use mathlib.Core.List.{List, [], _∷_, _++_}
 use native.Mathlib.Omega.{arith}
 use native.Mathlib.Nat.{zero-add}
 use native.Mathlib.Numerals.{add-one}
 use lib.Dec.{leb, eqb}
-use lib.ListN.{length, getD, take, drop, length-take, take-append-drop}
+use lib.ListN.{length, getD, take, drop, take-append-drop}
 use lib.Seq.{take-suc, take-append-add, length-take-le}
 use mir.Val.{boolByte}
 use borrow.Author.Tests.{le-leb, lt-leb, leb-true}
 use Rattle.rules.specs.Lists.{if_then_else_, bit}
-use Rattle.rules.specs.Reading.{isLF, countLF}
+use Rattle.rules.specs.Reading.{countLF}
 use Rattle.rules.specs.Limits.{maxLevels}
 use Rattle.rules.proofs.ListLaws.{and-true}
 use Rattle.records.specs.Words.{lineWord}

@@ -1,20 +1,20 @@
 -- What `read` answers and leaves, by the answer of its first pass.
 -- Assumes nothing.
-use Prim.Native.Nat.{ℕ, suc, _+_, _*_, _≤_, _<_}
+use Prim.Native.Nat.{ℕ, _+_, _*_, _≤_, _<_}
 use mathlib.Core.Path.{_≡_, refl, sym, ap, subst, _∙_}
 use mathlib.Core.List.{List, [], _∷_}
 use native.Mathlib.Omega.{arith}
 use lib.ListN.{length}
 use lib.Seq.{sets}
 use borrow.Author.Tests.{lt-ltb, le-ltb}
-use Rattle.rules.specs.Line.{State, initial, Halt}
-use Rattle.rules.specs.Reading.{linesOf, Entry, Reading, reads, halts, readFrom, byteSum, tokenSum}
+use Rattle.rules.specs.Line.{initial}
+use Rattle.rules.specs.Reading.{linesOf, Reading, reads, halts, readFrom, tokenSum}
 use Rattle.rules.specs.Limits.{maxBytes, maxLevels, LineLimits}
-use Rattle.rules.specs.Replies.{linesBuffer, tokensBuffer, Refusal, reading, short, numbered, firstOf, unless, refusedIf}
+use Rattle.rules.specs.Replies.{linesBuffer, tokensBuffer, numbered, firstOf, unless, refusedIf}
 use Rattle.rules.specs.Records.{lineSize, tokenSize, lineNeed, tokenNeed, withEnd, Records, recordsOf, recordTests, FreshReading, recorded, unread, recordedBy, readLines}
-use Rattle.rules.specs.Read.{Filled, notFilled, filled, filledBy}
+use Rattle.rules.specs.Read.{Filled, filledBy}
 use Rattle.rules.proofs.RecordLaws.{fresh-sizes}
-use Rattle.rules.proofs.BoundLaws.{Small, fresh-small}
+use Rattle.rules.proofs.BoundLaws.{fresh-small}
 use Rattle.copies.proofs.Joins.{front-over}
 use Rattle.refusals.specs.declared.Unread.{Unread}
 use Rattle.reading.specs.declared.ReadAnswer.{ReadAnswer}

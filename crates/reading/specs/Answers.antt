@@ -1,7 +1,6 @@
 -- The answers of the calls, in the document's numbers and values.
 -- Assumes nothing.
-use Prim.Native.Nat.{ℕ}
-use mathlib.Core.List.{List, [], _∷_}
+use mathlib.Core.List.{[], _∷_}
 use Rattle.rules.specs.Replies.{Reply, numberedUnread, linesBuffer, tokensBuffer}
 use Rattle.refusals.specs.Unreads.{unreadOf}
 use Rattle.reading.specs.declared.ReadAnswer.{ReadAnswer}

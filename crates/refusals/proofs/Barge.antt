@@ -1,6 +1,6 @@
 -- What is said of the barge's limits, of the code's value for them.
 -- Assumes nothing.
-use Prim.Native.Nat.{ℕ, _≤_}
+use Prim.Native.Nat.{_≤_}
 use mathlib.Core.Path.{_≡_, ap}
 use native.Mathlib.Omega.{arith}
 use Rattle.rules.specs.Limits as rules-limits

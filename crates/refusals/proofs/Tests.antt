@@ -3,15 +3,15 @@
 use Prim.Native.Nat.{ℕ, _≤_}
 use mathlib.Core.Path.{_≡_, refl, sym, ap, _∙_}
 use mathlib.Core.Bool.{Bool, true, false}
-use mathlib.Core.List.{List, [], _∷_}
-use mathlib.Core.Option.{Option, none, some}
+use mathlib.Core.List.{List, _∷_}
+use mathlib.Core.Option.{Option}
 use native.Mathlib.Omega.{arith}
 use lib.ListN.{length}
 use borrow.Author.Tests.{ltb-false}
 use Rattle.rules.specs.Lists.{if_then_else_}
 use Rattle.rules.specs.Limits.{Limits, barge}
 use Rattle.rules.specs.Replies as rules-replies
-use Rattle.rules.specs.Replies.{tooLong, malformed, lexical, atLine, Refusal, reading, Reply, numberedUnread, numbered, refusedIf, firstOf, unless, isTooLong, tooLongBy, isMalformed, malformedBy, longTest, formTest}
+use Rattle.rules.specs.Replies.{tooLong, malformed, lexical, atLine, Refusal, Reply, numberedUnread, numbered, refusedIf, firstOf, unless, isTooLong, tooLongBy, isMalformed, malformedBy, longTest, formTest}
 use Rattle.rules.specs.Records.{FreshReading, unread, readLines, freshReadingBy}
 use Rattle.refusals.specs.Unreads.{unreadIn, unreadOf, testOf}
 use Rattle.refusals.specs.declared.Unread.{Unread}

@@ -1,30 +1,29 @@
 -- The line records of a faithful page, word by word, and the old line that stands at the same byte of the kept tail.
 -- Assumes nothing.
 use Prim.Native.Nat.{ℕ, zero, suc, _+_, _-_, _*_, _≤_, _<_}
-use mathlib.Core.Path.{_≡_, refl, sym, ap, subst, _∙_}
+use mathlib.Core.Path.{_≡_, refl, sym, ap, _∙_}
 use mathlib.Core.Bool.{Bool, true, false, false≢true}
 use mathlib.Core.List.{List, [], _∷_, _++_}
 use mathlib.Core.Logic.{⊎-elim}
 use native.Mathlib.Omega.{arith}
 use native.Mathlib.Nat.{eq-zero-or-pos, zero-add, add-zero}
 use lib.ListN.{length, getD, take, drop, length-append, length-drop, take-append-drop}
-use lib.Seq.{drop-drop, getD-take, getD-drop, take-append-le, drop-append-le, length-take-le}
+use lib.Seq.{drop-drop, getD-take, getD-drop, take-append-le, drop-append-le}
 use Rattle.rules.specs.Lists.{same}
 use Rattle.rules.specs.Line.{State, initial}
 use Rattle.rules.specs.Reading.{linesOf, Entry, reads, readFrom, byteSum, tokenSum, stateAt}
 use Rattle.rules.specs.Limits.{maxLevels, LineLimits}
 use Rattle.rules.specs.Records.{lineSize, lineNeed, stateWords, lineRecord, lineRecords, endEntry, withEnd}
-use Rattle.rules.specs.StopRule.{Edit, edited, keptFrom, marksFrom, sameState, isStop}
+use Rattle.rules.specs.StopRule.{Edit, keptFrom}
 use Rattle.rules.proofs.LineLaws.{total}
 use Rattle.rules.proofs.ReadingLaws.{parts}
-use Rattle.rules.proofs.RecordLaws.{length-lineRecords, length-stateWords, record-at}
+use Rattle.rules.proofs.RecordLaws.{length-lineRecords, record-at}
 use Rattle.rules.proofs.StateLaws.{same-true, same-refl}
-use Rattle.rules.proofs.StopLaws.{mark, Positive, read-positive, line-at-byte}
-use Rattle.rules.proofs.MendLaws.{keptLines, no-stop}
-use Rattle.rules.proofs.BoundLaws.{StateOk, entries-ok, AllLe}
+use Rattle.rules.proofs.StopLaws.{Positive, read-positive, line-at-byte}
+use Rattle.rules.proofs.MendLaws.{keptLines}
+use Rattle.rules.proofs.BoundLaws.{entries-ok}
 use Rattle.records.specs.Words.{startWord, stateIn}
-use Rattle.rereading.specs.Words.{oldByte, FirstFrom, stopsAt}
-use Rattle.rereading.proofs.Words.{stop-near, stop-here}
+use Rattle.rereading.specs.Words.{FirstFrom}
 
 -- Records of lines by their words.
 

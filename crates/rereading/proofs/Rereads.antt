@@ -1,6 +1,6 @@
 -- Reading on: what was read so far, one line more, and how it ends.
 -- Assumes nothing.
-use Prim.Native.Nat.{ℕ, suc, _+_, _-_, _*_, _≤_, _<_}
+use Prim.Native.Nat.{ℕ, suc, _+_, _-_, _≤_, _<_}
 use mathlib.Core.Path.{_≡_, refl, sym, ap, subst, _∙_}
 use mathlib.Core.Bool.{true, false, _&&_}
 use mathlib.Core.List.{List, [], _∷_, _++_}
@@ -14,7 +14,7 @@ use borrow.Author.Tests.{ltb-true, eqb-true}
 use Rattle.rules.specs.Lists.{same}
 use Rattle.rules.specs.Line as rules-line
 use Rattle.rules.specs.Line.{Token, Halt, lineReads, lineHalts, readLine}
-use Rattle.rules.specs.Reading.{linesOf, Entry, entry, Reading, reads, halts, readFrom, byteSum, tokenSum, stateAt, lineAt, sizeAt}
+use Rattle.rules.specs.Reading.{linesOf, Entry, entry, Reading, reads, halts, readFrom, byteSum, stateAt, lineAt, sizeAt}
 use Rattle.rules.specs.Limits.{maxLevels, LineLimits}
 use Rattle.rules.specs.Records.{stateWords, haltRefusal}
 use Rattle.rules.specs.StopRule.{edited, marksFrom, sameState, isStop, fromByte}

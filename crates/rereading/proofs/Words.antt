@@ -1,20 +1,18 @@
 -- Laws of old line records by their words.
 -- Assumes nothing.
-use Prim.Native.Nat.{ℕ, zero, _+_, _-_, _≤_, _<_}
-use mathlib.Core.Path.{_≡_, refl, subst}
-use mathlib.Core.Bool.{Bool, true, false}
-use mathlib.Core.List.{List, []}
+use Prim.Native.Nat.{ℕ, _+_, _-_, _≤_, _<_}
+use mathlib.Core.Path.{_≡_}
+use mathlib.Core.Bool.{false}
+use mathlib.Core.List.{List}
 use mathlib.Core.Logic.{⊎-elim}
 use native.Mathlib.Omega.{arith}
 use native.Mathlib.Nat.{eq-zero-or-pos}
-use lib.ListN.{length-take}
-use lib.Seq.{drop-drop}
 use borrow.Author.Tests.{eq-eqb, ne-eqb, lt-ltb, le-ltb}
 use Rattle.rules.specs.Lists.{same}
 use Rattle.rules.specs.Line.{State}
 use Rattle.rules.specs.Records.{stateWords}
 use Rattle.records.specs.Words.{startWord, stateIn}
-use Rattle.rereading.specs.Words.{oldByte, FirstFrom, stopsAt}
+use Rattle.rereading.specs.Words.{oldByte, stopsAt}
 
 pub before-more : (lines : List ℕ) (j at r : ℕ) → ((x : ℕ) → j ≤ x → x < r → startWord lines x < at) → startWord lines r < at
     → (x : ℕ) → j ≤ x → x < r + 1 → startWord lines x < at

@@ -1,17 +1,14 @@
 // Lines read from a state on, up to the stop rule against old line records.
 ghost use mathlib.Core.Path.{_≡_};
 ghost use mathlib.Core.Bool.{true};
-ghost use mathlib.Core.List.{[], _∷_};
-ghost use Prim.Native.Nat.{suc, _+_, _-_, _*_, _≤_, _<_};
-ghost use lib.ListN.{length, getD};
+ghost use Prim.Native.Nat.{_+_, _-_, _*_, _≤_, _<_};
+ghost use lib.ListN.{length};
 ghost use lib.Seq.{sets};
-ghost use Rattle.rules.specs.Line.{readLine};
 ghost use Rattle.rules.specs.Reading.{linesOf, readFrom, linesRead};
 ghost use Rattle.rules.specs.Limits.{maxLevels};
-ghost use Rattle.rules.specs.Records.{lineSize, tokenSize, lineRecord, lineRecords, tokenWords, tokenRecords};
+ghost use Rattle.rules.specs.Records.{lineSize, tokenSize, lineRecords, tokenRecords};
 ghost use Rattle.tables.specs.All.{allTables};
 ghost use Rattle.records.specs.States.{stateOf};
-ghost use Rattle.line.specs.LineCuts.{tokensIn, RoomIn};
 ghost use Rattle.refusals.specs.Limits.{lineLimitsOf};
 ghost use Rattle.laws.specs.Puts.{putIf};
 ghost use Rattle.rereading.specs.Words.{oldByte, FirstFrom, stopsAt};

@@ -1,5 +1,4 @@
 // The rows that the program `scan` prints: of a page, of its tokens, and of a refusal.
-ghost use mathlib.Core.Path.{_≡_};
 ghost use mathlib.Core.Bool.{true};
 ghost use mathlib.Core.List.{[], _∷_};
 ghost use Prim.Native.Nat.{_*_, _≤_};

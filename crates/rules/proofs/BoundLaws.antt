@@ -1,8 +1,8 @@
 -- How large what a reading gives can be: tokens, levels, depth, widths, and each word of the records.
 -- Assumes nothing.
-use Prim.Native.Nat.{ℕ, zero, suc, _+_, _-_, _*_, _≤_, _<_, zero-le, suc-le-suc, pred, min, max}
+use Prim.Native.Nat.{ℕ, zero, suc, _+_, _-_, _*_, _≤_, _<_, zero-le, pred, min, max}
 use Prim.Native.Char.{code}
-use mathlib.Core.Path.{_≡_, refl, sym, _∙_, ap}
+use mathlib.Core.Path.{_≡_, refl, sym, _∙_}
 use mathlib.Core.Bool.{Bool, true, false, _&&_, not, false≢true}
 use mathlib.Core.List.{List, [], _∷_, _++_}
 use native.Mathlib.Omega.{arith}
@@ -13,14 +13,14 @@ use Rattle.rules.specs.Lists.{if_then_else_, bit, any, elem, run, trimme
 use Rattle.rules.specs.Kinds.{LParen, RParen, Indent, Dedent, Newline}
 use Rattle.rules.specs.Tables.{isBlank, classOf}
 use Rattle.rules.specs.Cut.{Cut, blank, comment, ends, token, fails, cutBy, cut}
-use Rattle.rules.specs.Line.{State, initial, Token, tokenAt, Cuts, cuts, stops, withToken, cutStep, cutsFrom, isSpace, isTab, indentWidth, afterBlanks, isBlankLine, isCompared, Levels, levels, unequal, beyond, dedents, opened, closed, compared, levelsOf, depthAfter, arrowAfter, LineReply, lineReads, lineHalts, withCuts, withLevels, readLine}
-use Rattle.rules.specs.Reading.{Line, linesOf, content, notLF, Entry, entry, Reading, reads, halts, readFrom, byteSum, tokenSum}
+use Rattle.rules.specs.Line.{State, initial, Token, tokenAt, Cuts, cuts, stops, withToken, cutStep, cutsFrom, isSpace, isTab, indentWidth, afterBlanks, isBlankLine, isCompared, Levels, levels, unequal, beyond, dedents, opened, closed, compared, levelsOf, depthAfter, arrowAfter, lineReads, withCuts, withLevels, readLine}
+use Rattle.rules.specs.Reading.{Line, linesOf, content, notLF, Entry, reads, readFrom, byteSum, tokenSum}
 use Rattle.rules.specs.Limits.{maxBytes, maxLevels, LineLimits}
-use Rattle.rules.specs.Records.{widthWords, lineSize, lineNeed, tokenNeed, packed, stateWords, lineRecord, tokenWords, lineRecords, tokenRecords, endEntry, withEnd, Records, recordsOf, recorded, readLines, Behind}
+use Rattle.rules.specs.Records.{widthWords, lineNeed, tokenNeed, packed, stateWords, lineRecord, tokenWords, lineRecords, tokenRecords, endEntry, withEnd, Records, recordsOf, recorded, readLines, Behind}
 use Rattle.rules.proofs.ListLaws.{if-by, and-true, run-true, trimEnd-le}
-use Rattle.rules.proofs.CutLaws.{TokenOk, CutOk, cut-ok, cuts-blank}
+use Rattle.rules.proofs.CutLaws.{CutOk, cut-ok, cuts-blank}
 use Rattle.rules.proofs.LineLaws.{total, total-lines, first-some, next-line}
-use Rattle.rules.proofs.ReadingLaws.{Step, step, read-sizes, byteSum-append, tokenSum-append}
+use Rattle.rules.proofs.ReadingLaws.{step, read-sizes, byteSum-append, tokenSum-append}
 use Rattle.rules.proofs.RecordLaws.{behind}
 use Rattle.rules.proofs.LoopLaws.{ReadTo}
 

@@ -1,8 +1,8 @@
 -- The edit's contract: as the code's returns meet it, that it can be met on every page, and what it says of every page that fits.
 -- Assumes nothing.
-use Prim.Native.Nat.{ℕ, zero, suc, _≤_, _<_}
+use Prim.Native.Nat.{ℕ, suc, _≤_}
 use mathlib.Core.Path.{_≡_, refl, sym, ap, _∙_}
-use mathlib.Core.Bool.{Bool, true, false, not}
+use mathlib.Core.Bool.{Bool, true, false}
 use mathlib.Core.List.{List, [], _∷_}
 use mathlib.Core.Option.{Option, none, some}
 use native.Mathlib.Omega.{arith}
@@ -13,9 +13,9 @@ use Rattle.rules.specs.Line.{initial, Halt, failed, overLimit}
 use Rattle.rules.specs.Reading.{linesOf, Reading, reads, halts, readFrom, byteSum}
 use Rattle.rules.specs.Failure.{failureRecord}
 use Rattle.rules.specs.Limits.{maxBytes, bargeLine}
-use Rattle.rules.specs.Replies.{isTooLong, Unread, Refusal, reading, unfit, Reply, numbered, accepted, refusedIf, firstOf, unless}
-use Rattle.rules.specs.Records.{lineNeed, tokenNeed, Records, recordsOf, recordTests, haltRefusal, recordedBy, FreshReading, recorded, unread, readLines}
-use Rattle.rules.specs.Page.{Page, Lent, Sizes, sizes, fits, pageText, Faithful, isFaithful}
+use Rattle.rules.specs.Replies.{isTooLong, Refusal, reading, unfit, Reply, numbered, accepted, refusedIf, firstOf, unless}
+use Rattle.rules.specs.Records.{lineNeed, tokenNeed, Records, recordsOf, recordTests, haltRefusal, recordedBy, recorded, readLines}
+use Rattle.rules.specs.Page.{Page, Lent, Sizes, sizes, fits, pageText, Faithful}
 use Rattle.rules.specs.StopRule.{Edit, edited, rereadCount}
 use Rattle.rules.specs.Edit.{Outcome, early, late, done, gate, stored, through, outcome, replyOf, after, pageGate, Free, failure, limit, fewLines, fewTokens, stale, acceptance, Allowed, EditPost}
 use Rattle.rules.specs.Check.{checkReply}
@@ -23,7 +23,7 @@ use Rattle.rules.specs.History.{Chain, call, textAfter, Holds}
 use Rattle.rules.proofs.LimitLaws.{HaltNumbered, halt-numbered}
 use Rattle.rules.proofs.BufferLaws.{length-overwrite, overwrite-take}
 use Rattle.rules.proofs.RecordLaws.{fresh-sizes}
-use Rattle.rules.proofs.PageLaws.{Fits, fits-true, true-fits, faithful-fits, fresh-lines, fresh-inverse, faithful-iff}
+use Rattle.rules.proofs.PageLaws.{Fits, true-fits, faithful-fits, faithful-iff}
 use Rattle.rules.proofs.GateLaws.{Passed, stopsEarly, stopsLate, clear, gate-passed, RoomCases, enough, room-cases}
 use Rattle.rules.proofs.BoundLaws.{fresh-small}
 use Rattle.rules.proofs.HistoryLaws.{holds-faithful, holds-fits}

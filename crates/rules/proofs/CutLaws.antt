@@ -3,21 +3,21 @@
 -- Assumes nothing.
 use Prim.Native.Nat.{ℕ, zero, suc, _+_, _-_, _≤_, _<_, zero-le, suc-le-suc, pred}
 use Prim.Native.Char.{code}
-use mathlib.Core.Path.{_≡_, refl, sym, _∙_, ap, subst}
-use mathlib.Core.Bool.{Bool, true, false, _&&_, _||_, not}
+use mathlib.Core.Path.{_≡_, refl, _∙_, ap, subst}
+use mathlib.Core.Bool.{Bool, true, false, _&&_, _||_}
 use mathlib.Core.List.{List, [], _∷_, _++_}
 use native.Mathlib.Omega.{arith}
 use lib.Dec.{ltb, eqb}
-use lib.ListN.{length, getD, take, drop, length-drop, drop-of-length-le}
+use lib.ListN.{length, take, drop, length-drop, drop-of-length-le}
 use lib.Seq.{drop-cons, drop-drop}
 use borrow.Author.Tests.{ltb-true, lt-ltb, le-ltb}
 use Rattle.rules.specs.Lists.{if_then_else_, within, ascii, every, elem, same, run, begins, trimEnd}
 use Rattle.rules.specs.Utf8.{scalarSize}
-use Rattle.rules.specs.Kinds.{kindNames, placeIn, kindNamed, Ident, Num, ByteLit, Str, Indent}
+use Rattle.rules.specs.Kinds.{Str, Indent}
 use Rattle.rules.specs.Tables.{isBlank, isCR, isDigit, isLetter, isHexDigit, isSign, classOf, Spelling, keywords, signs, wordKind, tableRules}
 use Rattle.rules.specs.Failure.{Failure, failure, unterminatedString}
-use Rattle.rules.specs.Cut.{Cut, blank, comment, ends, token, fails, failing, finding, inDecimal, inHex, inWord, inString, fractionSize, decimalSize, digitsSize, suffixes, suffixSize, scanNumber, numberCut, stringEnd, stringCut, closingCut, lowDigitCut, highDigitCut, escapeCut, contentCut, byteCut, wordCut, letterCut, signCut, cutBy, cut}
-use Rattle.rules.specs.Line.{Token, tokenAt, movedBy, Cuts, cuts, stops, withToken, cutStep, cutsFrom}
+use Rattle.rules.specs.Cut.{Cut, blank, comment, ends, token, fails, finding, inDecimal, inHex, inWord, inString, fractionSize, decimalSize, digitsSize, suffixes, suffixSize, scanNumber, numberCut, stringEnd, stringCut, closingCut, lowDigitCut, highDigitCut, escapeCut, contentCut, byteCut, wordCut, letterCut, signCut, cutBy, cut}
+use Rattle.rules.specs.Line.{tokenAt, movedBy, cuts, stops, withToken, cutStep, cutsFrom}
 use Rattle.rules.proofs.Utf8Laws.{size-le}
 use Rattle.rules.proofs.ListLaws.{if-by, or-by, or-left, and-left, and-true, run-some, run-le, begins-le, trimEnd-le, trimEnd-drop}
 

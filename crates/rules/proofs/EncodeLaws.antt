@@ -1,19 +1,18 @@
 -- Decoding and encoding: a scalar's bytes are those that its value is encoded in.
 -- Assumes nothing.
 use Prim.Native.Nat.{ℕ, zero, suc, _+_, _-_, _*_, _/_, _%_, _≤_, _<_, pred}
-use mathlib.Core.Path.{_≡_, refl, sym, _∙_, ap}
+use mathlib.Core.Path.{_≡_, refl, _∙_, ap}
 use mathlib.Core.Bool.{Bool, true, false, _&&_, false≢true}
 use mathlib.Core.List.{List, [], _∷_}
-use mathlib.Core.Option.{Option, none, some}
+use mathlib.Core.Option.{some}
 use native.Mathlib.Omega.{arith}
-use native.Mathlib.Nat.{suc-inj}
 use lib.Dec.{leb, ltb}
 use lib.ListN.{length, take}
 use borrow.Author.Tests.{leb-true, lt-ltb, le-ltb}
 use Rattle.rules.specs.Lists.{if_then_else_, within}
-use Rattle.rules.specs.Utf8.{Range, Row, table, following, inRanges, sizeBy, scalarSize, sixBits, firstBits, scalarValue, laterByte, encode}
+use Rattle.rules.specs.Utf8.{Range, Row, table, following, inRanges, scalarSize, sixBits, firstBits, scalarValue, laterByte, encode}
 use Rattle.rules.proofs.ListLaws.{and-left, and-right}
-use Rattle.rules.proofs.Utf8Laws.{Later, later}
+use Rattle.rules.proofs.Utf8Laws.{later}
 
 -- One law for each length.
 

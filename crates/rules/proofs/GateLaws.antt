@@ -1,6 +1,6 @@
 -- The first refusals of an edit, one by one, and the outcome by cases.
 -- Assumes nothing.
-use Prim.Native.Nat.{ℕ, zero, suc, _≤_, _<_}
+use Prim.Native.Nat.{ℕ, suc, _≤_, _<_}
 use mathlib.Core.Path.{_≡_, refl, sym, ap, _∙_}
 use mathlib.Core.Bool.{Bool, true, false, _||_}
 use mathlib.Core.List.{List, [], _∷_}
@@ -10,14 +10,14 @@ use lib.Dec.{ltb}
 use lib.ListN.{length}
 use borrow.Author.Tests.{ltb-false, lt-ltb, le-ltb}
 use Rattle.rules.specs.Lists.{if_then_else_}
-use Rattle.rules.specs.Limits.{maxBytes, barge, bargeLine}
+use Rattle.rules.specs.Limits.{barge, bargeLine}
 use Rattle.rules.specs.Replies.{Unread, Refusal, reading, short, outside, numberedUnread, numbered, isRefused, textBuffer, spareBuffer, linesBuffer, tokensBuffer, refusedIf, firstOf, unless, isTooLong, tooLongBy, isMalformed, malformedBy}
 use Rattle.rules.specs.Records.{lineNeed, tokenNeed, Records, recordTests, FreshReading, recorded, unread, readLines, freshReading}
 use Rattle.rules.specs.Page.{Sizes}
 use Rattle.rules.specs.StopRule.{Edit, edited, rereadCount}
 use Rattle.rules.specs.Edit.{Outcome, early, late, done, isImproper, earlyTests, gate, stored, through, outcome}
 use Rattle.rules.specs.History.{Proper}
-use Rattle.rules.proofs.ListLaws.{if-by, or-left, or-right, or-none}
+use Rattle.rules.proofs.ListLaws.{or-left, or-right, or-none}
 use Rattle.rules.proofs.PageLaws.{unread-refused, fresh-lines, fresh-inverse, FreshCases, long, illFormed, lines, fresh-cases}
 
 -- One test.

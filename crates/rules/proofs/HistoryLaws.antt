@@ -1,22 +1,21 @@
 -- Demand 3: every list of edits from the fresh page leaves what the history on paper says.
 -- Assumes nothing.
-use Prim.Native.Nat.{ℕ, zero, suc, _≤_}
+use Prim.Native.Nat.{ℕ, suc, _≤_}
 use mathlib.Core.Path.{_≡_, refl, ap, _∙_}
 use mathlib.Core.Bool.{true}
 use mathlib.Core.List.{List, [], _∷_, _++_}
 use native.Mathlib.Omega.{arith}
 use lib.Dec.{ltb}
-use lib.ListN.{length, take, drop, replicate, length-replicate}
-use lib.Seq.{take-at}
+use lib.ListN.{length, take, drop, replicate}
 use borrow.Author.Tests.{le-ltb}
 use Rattle.rules.specs.Lists.{if_then_else_, overwrite}
 use Rattle.rules.specs.Utf8.{utf8Rules}
 use Rattle.rules.specs.Limits.{bargeLine}
 use Rattle.rules.specs.Replies.{Unread, Refusal, reading, Reply, numbered, accepted, isRefused, refusedIf, unless, isTooLong, isMalformed}
-use Rattle.rules.specs.Records.{lineSize, lineNeed, tokenNeed, header, headerWords, Records, recorded, unread, freshReading, readLines}
+use Rattle.rules.specs.Records.{lineSize, lineNeed, tokenNeed, header, Records, recorded, freshReading, readLines}
 use Rattle.rules.specs.Page.{Page, Lent, Sizes, sizes, pageText, pageRecords, Faithful, headerAfter, freshReply, freshLines, freshPage, FreshPost}
-use Rattle.rules.specs.StopRule.{Edit, edited, rereadCount}
-use Rattle.rules.specs.Edit.{Outcome, early, late, done, outcome, replyOf, after, EditPost}
+use Rattle.rules.specs.StopRule.{Edit, edited}
+use Rattle.rules.specs.Edit.{Outcome, late, done, outcome, replyOf, after, EditPost}
 use Rattle.rules.specs.History.{none, call, textAfter, paperNext, paperText, paperReplies, paperLent, Proper, Room, LongEnough, Settled, Holds, Demand3From, Demand3}
 use Rattle.rules.proofs.BufferLaws.{length-overwrite, overwrite-take}
 use Rattle.rules.proofs.RecordLaws.{fresh-sizes, fresh-empty}

@@ -1,13 +1,13 @@
 -- Laws of the lines of a text.
 -- Assumes nothing.
 use Prim.Native.Nat.{ℕ, zero, suc, _+_, _-_, _≤_, _<_, zero-le, suc-le-suc}
-use mathlib.Core.Path.{_≡_, refl, sym, ap, _∙_, subst}
+use mathlib.Core.Path.{_≡_, refl, sym, ap, _∙_}
 use mathlib.Core.Bool.{Bool, true, false, not}
 use mathlib.Core.List.{List, [], _∷_, _++_}
 use native.Mathlib.Omega.{arith}
-use native.Mathlib.Nat.{add-zero, suc-add, zero-add}
+use native.Mathlib.Nat.{suc-add, zero-add}
 use lib.ListN.{length, getD, take, drop, length-append, length-drop}
-use lib.Seq.{drop-drop, take-nil, drop-nil, getD-drop, split-at, take-at, length-take-le}
+use lib.Seq.{drop-drop, take-nil, getD-drop, split-at, take-at, length-take-le}
 use borrow.Author.Tests.{eqb-true, eq-eqb, ne-eqb}
 use lib.Dec.{eqb}
 use Rattle.rules.specs.Lists.{if_then_else_, run}

@@ -11,14 +11,14 @@ use lib.Seq.{take-at, take-nil, drop-drop, length-take-le, take-append-le, drop-
 use lib.Dec.{ltb}
 use borrow.Author.Tests.{lt-ltb}
 use Rattle.rules.specs.Lists.{if_then_else_, any, run}
-use Rattle.rules.specs.Line.{State, initial, Token, Halt, LineReply, lineReads, lineHalts, readLine}
+use Rattle.rules.specs.Line.{State, initial, Token, Halt, lineReads, lineHalts, readLine}
 use Rattle.rules.specs.Reading.{Line, linesOf, content, Entry, entry, Reading, reads, halts, readFrom, linesRead, byteSum, tokenSum, stateAt, lineAt, sizeAt}
 use Rattle.rules.specs.Limits.{LineLimits}
 use Rattle.rules.specs.Records.{lineSize, tokenSize, lineRecords, tokenRecords, endEntry, withEnd, Records, recordsOf}
-use Rattle.rules.specs.StopRule.{Edit, edited, keptFrom, Mark, marksFrom, sameState, sameMark, oldMark, isStop, rereadCount, fromLine, fromByte, fromState}
+use Rattle.rules.specs.StopRule.{Edit, edited, keptFrom, marksFrom, sameState, sameMark, isStop, rereadCount, fromLine, fromByte, fromState}
 use Rattle.rules.proofs.LineLaws.{total, total-lines, drop-lines, firstSize-le, lines-at, content-first}
-use Rattle.rules.proofs.ReadingLaws.{withEntries, andThen, withEntries-reads, withEntries-halts, linesRead-withEntries, readFrom-append, read-more, read-halts, Parts, parts, read-sizes, byteSum-append}
-use Rattle.rules.proofs.StopLaws.{mark, Positive, read-positive, mark-at}
+use Rattle.rules.proofs.ReadingLaws.{withEntries, andThen, withEntries-reads, withEntries-halts, linesRead-withEntries, readFrom-append, read-more, read-halts, parts, read-sizes, byteSum-append}
+use Rattle.rules.proofs.StopLaws.{mark, read-positive, mark-at}
 use Rattle.rules.proofs.EditedLaws.{length-edited, old-start}
 use Rattle.rules.proofs.MendLaws.{keptLines, linesTo, linesTo-cons, fresh-parts, front-reads, front-size, stop-run, stop-count, count-from}
 use Rattle.rules.proofs.MovedLaws.{moveLines, moveTokens, mended-lines, mended-tokens}

@@ -1,6 +1,6 @@
 -- The edited text read again only where it must be: that is its fresh reading, with as many lines re-read as the stop rule says.
 -- Assumes nothing.
-use Prim.Native.Nat.{ℕ, zero, suc, _+_, _-_, _≤_, _<_}
+use Prim.Native.Nat.{ℕ, suc, _+_, _-_, _≤_, _<_}
 use mathlib.Core.Path.{_≡_, refl, sym, ap, _∙_}
 use mathlib.Core.Bool.{Bool, true, false, _&&_, not}
 use mathlib.Core.List.{List, [], _∷_, _++_}
@@ -11,7 +11,7 @@ use lib.Seq.{drop-at, drop-drop, length-take-le}
 use lib.Dec.{ltb}
 use borrow.Author.Tests.{ltb-true, le-ltb}
 use Rattle.rules.specs.Lists.{if_then_else_, any, run}
-use Rattle.rules.specs.Line.{State, initial, Halt, LineReply, lineReads, lineHalts, readLine}
+use Rattle.rules.specs.Line.{State, initial, LineReply, lineReads, lineHalts, readLine}
 use Rattle.rules.specs.Reading.{Line, linesOf, countLF, content, Entry, entry, Reading, reads, halts, withEntry, lineThen, readFrom, linesRead, byteSum, stateAt}
 use Rattle.rules.specs.Limits.{LineLimits, bargeLine}
 use Rattle.rules.specs.Records.{recordedBy, readLines}
@@ -19,8 +19,8 @@ use Rattle.rules.specs.Page.{Sizes}
 use Rattle.rules.specs.StopRule.{Edit, edited, keptFrom, Mark, marksFrom, marksOf, sameMark, oldMark, isStop, rereadCount}
 use Rattle.rules.specs.Edit.{gate, stored, through, outcome}
 use Rattle.rules.proofs.ListLaws.{and-true, run-cons}
-use Rattle.rules.proofs.LineLaws.{total, total-lines, next-line, drop-lines, total-take-lines, lfs-lines}
-use Rattle.rules.proofs.ReadingLaws.{withEntries, andThen, linesRead-withEntries, readFrom-append, Parts, parts, read-sizes}
+use Rattle.rules.proofs.LineLaws.{total, next-line, drop-lines, total-take-lines, lfs-lines}
+use Rattle.rules.proofs.ReadingLaws.{withEntries, andThen, linesRead-withEntries, readFrom-append, parts, read-sizes}
 use Rattle.rules.proofs.StopLaws.{mark, marks-append, length-marks, mark-find, Positive, read-positive, lineAtByte, line-at-byte}
 use Rattle.rules.proofs.EditedLaws.{drop-edited, same-front}
 

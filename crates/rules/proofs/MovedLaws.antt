@@ -1,13 +1,13 @@
 -- The records of an edited text from the old ones: a front kept, records written, a tail moved.
 -- Assumes nothing.
-use Prim.Native.Nat.{ℕ, zero, suc, _+_, _-_, _*_, _≤_, _<_}
+use Prim.Native.Nat.{ℕ, zero, suc, _+_, _-_, _*_, _≤_}
 use mathlib.Core.Path.{_≡_, refl, sym, ap, _∙_}
 use mathlib.Core.List.{List, [], _∷_, _++_}
 use native.Mathlib.Omega.{arith}
 use native.Mathlib.Nat.{add-zero, suc-add, zero-add, add-assoc, add-suc}
 use lib.ListN.{length, getD, take, drop}
 use lib.Seq.{drop-at, take-at, length-take-le}
-use Rattle.rules.specs.Line.{State, Token}
+use Rattle.rules.specs.Line.{Token}
 use Rattle.rules.specs.Reading.{Entry, byteSum, tokenSum}
 use Rattle.rules.specs.Records.{lineSize, tokenSize, stateWords, lineRecord, lineRecords, tokenWords, tokenRecords}
 use Rattle.rules.proofs.RecordLaws.{stateSize, length-stateWords, lineRecords-append, lineRecords-take, lineRecords-drop, tokenRecords-append, tokenRecords-take, tokenRecords-drop}

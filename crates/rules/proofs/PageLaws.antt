@@ -1,12 +1,11 @@
 -- Pages: fitting and being faithful, as tests and as facts; the fresh reading by cases.
 -- Assumes nothing.
-use Prim.Native.Nat.{ℕ, zero, suc, _+_, _*_, _≤_, _<_}
-use mathlib.Core.Path.{_≡_, refl, sym, ap, _∙_}
+use Prim.Native.Nat.{ℕ, zero, suc, _+_, _≤_}
+use mathlib.Core.Path.{_≡_, refl, ap, _∙_}
 use mathlib.Core.Bool.{Bool, true, false, _&&_, false≢true}
 use mathlib.Core.List.{List, [], _∷_}
 use mathlib.Core.Logic.{_↔_}
 use native.Mathlib.Omega.{arith}
-use native.Mathlib.Decide.{decLe}
 use lib.Dec.{leb, ltb}
 use lib.ListN.{length, take, length-take}
 use lib.Seq.{length-take-le}
@@ -16,7 +15,7 @@ use Rattle.rules.specs.Line.{initial, Halt, failed, overLimit}
 use Rattle.rules.specs.Reading.{linesOf, Reading, reads, halts, readFrom, byteSum}
 use Rattle.rules.specs.Limits.{barge, bargeLine, deepNumber}
 use Rattle.rules.specs.Replies.{Unread, tooLong, malformed, lexical, atLine, reading, failureWords, numberedUnread, numbered, isRefused, isTooLong, tooLongBy, isMalformed, malformedBy}
-use Rattle.rules.specs.Records.{lineNeed, tokenNeed, Header, header, headerWords, Records, haltRefusal, recordedBy, FreshReading, recorded, unread, readLines, freshReadingBy, freshReading}
+use Rattle.rules.specs.Records.{lineNeed, tokenNeed, Header, headerWords, Records, haltRefusal, recordedBy, FreshReading, recorded, unread, readLines, freshReadingBy, freshReading}
 use Rattle.rules.specs.Page.{Page, fits, pageText, pageRecords, Faithful, sameRecords, isRecorded, isFaithful, headerAfter}
 use Rattle.rules.proofs.LimitLaws.{HaltNumbered, halt-numbered}
 use Rattle.rules.proofs.ListLaws.{and-true}

@@ -10,9 +10,9 @@ use lib.Seq.{drop-at, take-at, take-append-le, length-take-le}
 use Rattle.rules.specs.Line.{State, initial, Token}
 use Rattle.rules.specs.Reading.{linesOf, Entry, Reading, reads, halts, readFrom, byteSum, tokenSum, stateAt}
 use Rattle.rules.specs.Limits.{LineLimits, bargeLine}
-use Rattle.rules.specs.Records.{widthWords, lineSize, tokenSize, lineNeed, tokenNeed, packed, stateWords, lineRecord, tokenWords, lineRecords, tokenRecords, endEntry, withEnd, header, Records, recordsOf, haltRefusal, FreshReading, recorded, unread, recordedBy, readLines, Behind}
-use Rattle.rules.proofs.LineLaws.{total, total-lines}
-use Rattle.rules.proofs.ReadingLaws.{read-sizes, tokenSum-append, byteSum-append}
+use Rattle.rules.specs.Records.{widthWords, lineSize, tokenSize, lineNeed, tokenNeed, packed, stateWords, lineRecord, tokenWords, lineRecords, tokenRecords, endEntry, withEnd, header, Records, recordsOf, recorded, recordedBy, readLines, Behind}
+use Rattle.rules.proofs.LineLaws.{total-lines}
+use Rattle.rules.proofs.ReadingLaws.{read-sizes}
 
 -- words of a state
 abbrev pub stateSize : ℕ

@@ -1,24 +1,23 @@
 -- Laws of line starts and of the stop rule.
 -- Assumes nothing.
-use Prim.Native.Nat.{ℕ, zero, suc, _+_, _-_, _≤_, _<_, suc-le-suc}
+use Prim.Native.Nat.{ℕ, zero, suc, _+_, _-_, _<_, suc-le-suc}
 use mathlib.Core.Path.{_≡_, refl, sym, ap, _∙_}
 use mathlib.Core.Bool.{Bool, true, false, _&&_, _||_, not, false≢true, or-false}
-use mathlib.Core.List.{List, [], _∷_, _++_, append-assoc}
+use mathlib.Core.List.{List, [], _∷_, _++_}
 use native.Mathlib.Omega.{arith}
 use native.Mathlib.Nat.{add-zero, add-assoc}
-use lib.ListN.{length, getD, take, drop, length-append, length-drop}
-use lib.Seq.{drop-drop, drop-nil, getD-drop, drop-append-add, length-take-le}
+use lib.ListN.{length, take, drop}
 use lib.Dec.{ltb, eqb}
-use borrow.Author.Tests.{ltb-true, lt-ltb, le-ltb, eqb-true, eq-eqb, ne-eqb}
+use borrow.Author.Tests.{eqb-true, eq-eqb, ne-eqb}
 use Rattle.rules.specs.Lists.{any, run}
 use Rattle.rules.specs.Limits.{LineLimits}
-use Rattle.rules.specs.Line.{State, initial, readLine}
-use Rattle.rules.specs.Reading.{Line, linesOf, content, Entry, entry, Reading, reads, readFrom, byteSum, stateAt}
-use Rattle.rules.specs.StopRule.{Edit, edited, keptFrom, Mark, marksFrom, sameState, sameMark, oldMark, isStop}
+use Rattle.rules.specs.Line.{State, readLine}
+use Rattle.rules.specs.Reading.{Line, linesOf, content, Entry, reads, readFrom, byteSum, stateAt}
+use Rattle.rules.specs.StopRule.{Edit, edited, keptFrom, Mark, marksFrom, sameState, sameMark, isStop}
 use Rattle.rules.proofs.ListLaws.{and-true, run-true, run-false}
-use Rattle.rules.proofs.LineLaws.{total, total-lines, next-line, drop-lines, start-lf, lf-start, first-some}
-use Rattle.rules.proofs.ReadingLaws.{Step, step, Parts, parts, read-sizes}
-use Rattle.rules.proofs.StateLaws.{sameState-true, sameState-refl}
+use Rattle.rules.proofs.LineLaws.{next-line, first-some}
+use Rattle.rules.proofs.ReadingLaws.{step}
+use Rattle.rules.proofs.StateLaws.{sameState-true}
 
 abbrev pub mark : ℕ → State → Mark
 mark p s = record { start = p; state = s }

@@ -1,17 +1,16 @@
 -- Table 3-7 as a scan by leading ones meets it: what follows a first byte, by comparisons.
 -- Assumes nothing.
-use Prim.Native.Nat.{ℕ, zero, suc, _+_, _≤_, _<_}
-use mathlib.Core.Path.{_≡_, refl, sym, _∙_, ap, subst}
+use Prim.Native.Nat.{ℕ, suc, _+_, _<_}
+use mathlib.Core.Path.{_≡_, refl, ap}
 use mathlib.Core.Bool.{Bool, true, false, _&&_, false≢true}
 use mathlib.Core.List.{List, [], _∷_}
 use mathlib.Core.Option.{Option, none, some}
-use native.Mathlib.Omega.{arith}
 use lib.Dec.{T, ltb, eqb}
 use borrow.Author.Tests.{eqb-true}
 use Rattle.laws.proofs.Below.{at}
 use Rattle.rules.specs.Lists.{if_then_else_}
 use Rattle.rules.proofs.ListLaws.{and-left, and-right}
-use Rattle.rules.specs.Utf8.{Range, _to_, continuation, Row, table, following}
+use Rattle.rules.specs.Utf8.{Range, _to_, continuation, table, following}
 
 -- the second byte's range
 pub second : ℕ → Range

@@ -8,11 +8,10 @@ use mathlib.Core.List.{List, [], _∷_, _++_, map}
 use lib.ListN.{replicate}
 use Rattle.rules.specs.Lists.{ascii}
 use Rattle.rules.specs.Kinds.{kindNamed}
-use Rattle.rules.specs.Replies.{Refusal, numbered, numberedUnread, accepted}
-use Rattle.rules.specs.Records.{headerWords, FreshReading, recorded, unread, freshReading}
-use Rattle.rules.specs.Page.{Sizes}
+use Rattle.rules.specs.Replies.{numberedUnread, accepted}
+use Rattle.rules.specs.Records.{FreshReading, recorded, unread, freshReading}
 use Rattle.rules.specs.StopRule.{Edit, edited}
-use Rattle.rules.specs.Edit.{replyOf, Outcome, early, late, done, outcome, editRules}
+use Rattle.rules.specs.Edit.{replyOf, late, done, outcome, editRules}
 
 pub record Case : Type 0 where
   pub got : List ℕ

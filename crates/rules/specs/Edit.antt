@@ -2,7 +2,7 @@
 -- Assumes nothing.
 use Prim.Native.Nat.{ℕ, _≤_}
 use mathlib.Core.Path.{_≡_}
-use mathlib.Core.Bool.{Bool, true, false, _||_, not}
+use mathlib.Core.Bool.{Bool, false, _||_, not}
 use mathlib.Core.List.{List, [], _∷_, _++_}
 use mathlib.Core.Option.{Option, none, some}
 use lib.Dec.{ltb}
@@ -11,8 +11,8 @@ use Rattle.rules.specs.Lists.{overwrite}
 use Rattle.rules.specs.Failure.{FailureRecord}
 use Rattle.rules.specs.Limits.{bargeLine, LimitNumber}
 use Rattle.rules.specs.Replies.{Refusal, reading, lexical, atLine, short, outside, unfit, Reply, numbered, accepted, textBuffer, spareBuffer, linesBuffer, tokensBuffer, refusedIf, firstOf, unless, longTest, formTest, roomTest}
-use Rattle.rules.specs.Records.{lineNeed, tokenNeed, Header, headerWords, Records, recordTests, FreshReading, recorded, unread, readLines}
-use Rattle.rules.specs.Page.{Page, Lent, Sizes, sizes, fits, pageText, Faithful, headerAfter, pageRules}
+use Rattle.rules.specs.Records.{lineNeed, tokenNeed, headerWords, Records, recordTests, FreshReading, recorded, unread, readLines}
+use Rattle.rules.specs.Page.{Lent, Sizes, sizes, fits, pageText, Faithful, pageRules}
 use Rattle.rules.specs.StopRule.{Edit, edited, rereadCount, stopRules}
 
 -- Outcomes.

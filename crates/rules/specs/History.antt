@@ -8,7 +8,7 @@ use lib.ListN.{length}
 use Rattle.rules.specs.Limits.{bargeLine}
 use Rattle.rules.specs.Replies.{Unread, Refusal, reading, Reply, numbered, accepted, isRefused}
 use Rattle.rules.specs.Records.{lineSize, lineNeed, tokenNeed, headerWords, Records, recorded, unread, freshReading}
-use Rattle.rules.specs.Page.{Page, Lent, Sizes, sizes, pageText, pageRecords, FreshPost}
+use Rattle.rules.specs.Page.{Lent, Sizes, sizes, pageText, pageRecords, FreshPost}
 use Rattle.rules.specs.StopRule.{Edit, edited, rereadCount}
 use Rattle.rules.specs.Edit.{Outcome, early, late, done, outcome, replyOf, after, EditPost}
 

@@ -1,6 +1,6 @@
 -- Tests and lists that the rules are written with. A text is a list of bytes.
 -- Assumes nothing.
-use Prim.Native.Nat.{ℕ, zero, suc}
+use Prim.Native.Nat.{ℕ, suc}
 use Prim.Native.String as S
 use Prim.Native.String.{String}
 use Prim.Native.Char.{code}

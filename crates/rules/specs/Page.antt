@@ -2,12 +2,12 @@
 -- Assumes nothing.
 use Prim.Native.Nat.{ℕ, zero, suc}
 use mathlib.Core.Path.{_≡_}
-use mathlib.Core.Bool.{Bool, true, false, _&&_}
+use mathlib.Core.Bool.{Bool, false, _&&_}
 use mathlib.Core.List.{List, [], _∷_}
 use lib.Dec.{leb, ltb, eqb}
 use lib.ListN.{length, take, replicate}
 use Rattle.rules.specs.Lists.{if_then_else_, same, overwrite}
-use Rattle.rules.specs.Replies.{Refusal, Reply, numbered, accepted, linesBuffer, roomTest, firstOf, unless}
+use Rattle.rules.specs.Replies.{Reply, numbered, accepted, linesBuffer, roomTest, unless}
 use Rattle.rules.specs.Records.{lineSize, lineNeed, tokenNeed, Header, header, headerWords, Records, FreshReading, recorded, unread, freshReading, recordRules}
 
 -- a header with the buffers text, lines and tokens

@@ -2,13 +2,13 @@
 -- Assumes nothing.
 use Prim.Native.Nat.{ℕ, zero, suc, _+_}
 use Prim.Native.Char.{code}
-use mathlib.Core.Bool.{Bool, true, false, not}
+use mathlib.Core.Bool.{Bool, false, not}
 use mathlib.Core.List.{List, [], _∷_, _++_}
 use lib.Dec.{eqb}
 use lib.ListN.{length, take, drop}
 use Rattle.rules.specs.Lists.{if_then_else_, run}
 use Rattle.rules.specs.Limits.{LineLimits}
-use Rattle.rules.specs.Line.{State, initial, Token, Halt, LineReply, lineReads, lineHalts, readLine, lineRules}
+use Rattle.rules.specs.Line.{State, Token, Halt, LineReply, lineReads, lineHalts, readLine, lineRules}
 
 -- Lines: one ends after each LF, and bytes after the last LF are one too.
 

@@ -2,7 +2,7 @@
 -- Assumes nothing.
 use Prim.Native.Nat.{ℕ, zero, suc, _+_, _-_, _/_, _%_, pred}
 use Prim.Native.Char.{code}
-use mathlib.Core.Bool.{Bool, true, false}
+use mathlib.Core.Bool.{true, false}
 use mathlib.Core.List.{List, [], _∷_, _++_}
 use lib.Dec.{ltb}
 use lib.ListN.{length, drop, replicate}
@@ -10,7 +10,7 @@ use Rattle.rules.specs.Lists.{if_then_else_, ascii, concat, overwrite}
 use Rattle.rules.specs.Utf8.{encode}
 use Rattle.rules.specs.Failure.{Shows, nothing, scalar, hexDigits, Detail, detailOf, FailureRecord}
 use Rattle.rules.specs.Reading.{content}
-use Rattle.rules.specs.Replies.{Unread, tooLong, malformed, lexical, atLine, Refusal, reading, Reply, numbered, accepted, outBuffer, unless, roomTest}
+use Rattle.rules.specs.Replies.{tooLong, malformed, lexical, atLine, Refusal, reading, Reply, numbered, accepted, outBuffer, unless, roomTest}
 use Rattle.rules.specs.Records.{FreshReading, recorded, unread, freshReading}
 
 -- Digits.

@@ -1,12 +1,12 @@
 -- What the program `scan` prints for the bytes of its input.
 -- Assumes nothing.
-use Prim.Native.Nat.{ℕ, zero, suc, _*_}
-use mathlib.Core.Bool.{Bool, true, false}
+use Prim.Native.Nat.{ℕ, zero, suc}
+use mathlib.Core.Bool.{false}
 use mathlib.Core.List.{List, [], _∷_, _++_}
 use lib.Dec.{ltb}
 use lib.ListN.{length, getD, drop}
 use Rattle.rules.specs.Lists.{if_then_else_, ascii, concat}
-use Rattle.rules.specs.Replies.{Unread, tooLong, malformed, lexical, atLine, numberedUnread}
+use Rattle.rules.specs.Replies.{tooLong, malformed, lexical, atLine}
 use Rattle.rules.specs.Records.{tokenSize, Header, Records, FreshReading, recorded, unread, freshReading}
 use Rattle.rules.specs.Report.{decimal, message}
 

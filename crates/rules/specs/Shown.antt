@@ -9,11 +9,11 @@ use mathlib.Core.Option.{Option, none, some}
 use lib.Dec.{leb, ltb, eqb}
 use lib.ListN.{length, getD, take, drop}
 use Rattle.rules.specs.Lists.{if_then_else_, within, ascii, any, every, elem, same}
-use Rattle.rules.specs.Utf8.{Range, Row, table, following, scalarSize, scalarValue, encode, leadingOnes}
-use Rattle.rules.specs.Kinds.{kindNames, kindNamed, isKind, Ident, Num, ByteLit, Str, Implies, LParen, RParen, Indent, Dedent, Newline}
+use Rattle.rules.specs.Utf8.{Range, Row, table, following, scalarValue, leadingOnes}
+use Rattle.rules.specs.Kinds.{kindNames, kindNamed, Ident, Num, ByteLit, Str, Implies, LParen, RParen, Indent, Dedent, Newline}
 use Rattle.rules.specs.Tables.{Spelling, keywords, signs, isSign, classOf, wordKind, tableRules}
 use Rattle.rules.specs.Cut.{Cut, blank, comment, ends, token, fails, cut, suffixes, cutRules}
-use Rattle.rules.specs.TokenText.{indentName, dedentName, newlineName, names, namesSize, Part, partBy, partBytes}
+use Rattle.rules.specs.TokenText.{indentName, dedentName, newlineName, names, namesSize, partBy, partBytes}
 
 -- n, n + 1 and so on, `count` numbers
 pub from : (count n : ℕ) → List ℕ

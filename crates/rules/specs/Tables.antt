@@ -6,7 +6,7 @@ use Prim.Native.Char.{code}
 use mathlib.Core.Bool.{Bool, true, false, _&&_, _||_}
 use mathlib.Core.List.{List, [], _∷_}
 use lib.Dec.{eqb}
-use Rattle.rules.specs.Lists.{if_then_else_, within, ascii, elem, begins, same}
+use Rattle.rules.specs.Lists.{if_then_else_, within, ascii, elem, same}
 use Rattle.rules.specs.Utf8.{utf8Rules}
 use Rattle.rules.specs.Kinds.{kindNames, placeIn, kindNamed, isKind, Ident}
 

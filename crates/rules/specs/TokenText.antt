@@ -1,7 +1,7 @@
 -- The text of a token: a part of the page's text or of the names, chosen by its kind.
 -- Assumes nothing.
 use Prim.Native.Nat.{ℕ, _+_, _*_}
-use mathlib.Core.Bool.{Bool, true, false, _||_, not}
+use mathlib.Core.Bool.{Bool, false, _||_, not}
 use mathlib.Core.List.{List, [], _∷_, _++_}
 use mathlib.Core.Option.{Option}
 use lib.Dec.{leb, ltb, eqb}

@@ -1,7 +1,7 @@
 -- What `scan` prints, by the answer of `read`.
 -- Assumes nothing.
 use Prim.Native.Nat.{ℕ, _+_, _*_, _≤_, _<_}
-use mathlib.Core.Path.{_≡_, refl, sym, ap, subst, _∙_}
+use mathlib.Core.Path.{_≡_, refl, sym, ap, _∙_}
 use mathlib.Core.Bool.{true}
 use mathlib.Core.List.{List, [], _∷_, _++_, append-nil}
 use native.Mathlib.Omega.{arith}
@@ -25,7 +25,7 @@ use Rattle.copies.proofs.Joins.{front-over}
 use Rattle.print.specs.Fields.{Room, Put}
 use Rattle.print.proofs.Fields.{concat-one}
 use Rattle.message.proofs.Whole.{message-of}
-use Rattle.message.specs.Messages.{messageIn, Printable}
+use Rattle.message.specs.Messages.{messageIn}
 use Rattle.report.proofs.Reports.{printable}
 use Rattle.scanning.specs.Shown.{Shows}
 use Rattle.rows.proofs.Rows.{rows-front}

@@ -11,7 +11,7 @@ use types.Run.{OneOf}
 use denote.Enum.Declared.{tagOf}
 use Rattle.rules.specs.Replies.{Refusal, Reply, numbered, accepted, firstOf, unless}
 use Rattle.rules.specs.Page.{Page}
-use Rattle.rules.specs.TokenText.{Part, partBy, partTests, partOf, partWords, partBytes, tokenTextReply, tokenTextNumber, tokenText}
+use Rattle.rules.specs.TokenText.{partBy, partTests, partOf, partWords, partBytes, tokenTextReply, tokenTextNumber, tokenText}
 use Rattle.token_text.specs.Answers.{refusalOf, numberOf, Token, IfGranted}
 use Rattle.token_text.specs.Places.{Place, after, partPlace, handedPart}
 use Rattle.token_text.specs.declared.Asked.{Asked}

@@ -10,7 +10,7 @@ use lib.ListN.{length}
 use borrow.Author.Tests.{ltb-false}
 use Rattle.rules.specs.Limits.{barge, bargeLine}
 use Rattle.rules.specs.Replies.{tooLong, malformed, lexical, atLine, isTooLong, linesBuffer, tokensBuffer, firstOf, unless, refusedIf, numbered, numberedUnread, failureWords}
-use Rattle.rules.specs.Records.{tokenSize, lineNeed, tokenNeed, Records, recordTests, FreshReading, recorded, unread, freshReading}
+use Rattle.rules.specs.Records.{tokenSize, lineNeed, tokenNeed, recordTests, FreshReading, recorded, unread, freshReading}
 use Rattle.rules.specs.Read.{filledBy, readInto}
 use Rattle.rules.proofs.PageLaws.{fresh-inverse}
 use Rattle.rules.proofs.BoundLaws.{fresh-small}

@@ -1,6 +1,5 @@
 // Reads a text of at most 512 bytes from standard input and walks its tokens: a row for each, its five words, the number that its text
 // is granted with, and the text. After them stand the numbers of texts that are refused, and of an empty one that is granted.
-ghost use mathlib.Core.Path.{_≡_};
 ghost use Prim.Native.Nat.{_*_, _≤_};
 ghost use lib.ListN.{length};
 ghost use Rattle.rules.specs.Records.{tokenSize};

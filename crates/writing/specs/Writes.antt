@@ -2,7 +2,7 @@
 -- Assumes nothing.
 use Prim.Native.Nat.{ℕ, _+_, _-_, _*_}
 use mathlib.Core.List.{List, _++_}
-use lib.ListN.{length, take}
+use lib.ListN.{take}
 use Rattle.rules.specs.Reading.{Entry}
 use Rattle.rules.specs.Records.{lineSize, tokenSize, lineRecords, tokenRecords}
 use Rattle.moving.specs.Moved.{movedLines, movedTokens}

@@ -1,11 +1,10 @@
 -- `editing::write_edit` meets its contract.
 -- Assumes nothing.
-use Prim.Native.Nat.{ℕ, _+_, _-_, _*_, _≤_, _<_}
-use mathlib.Core.Path.{_≡_, sym}
+use Prim.Native.Nat.{_-_}
+use mathlib.Core.Path.{sym}
 use native.Mathlib.Omega.{arith}
-use lib.ListN.{length, take, length-take}
+use lib.ListN.{length-take}
 use lib.Seq.{length-take-le}
-use Rattle.plans.specs.Plans.{Planned, Roomy}
 use borrow.Author.Needs.{needs}
 use Rattle.editing.proofs.write_edit.Statement.{statement}
 use Rattle.editing.proofs.write_edit.Tie as tie

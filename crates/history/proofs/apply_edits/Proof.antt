@@ -1,14 +1,13 @@
 -- `history::apply_edits` meets its contract. So far i edits are applied.
 -- Assumes nothing.
-use Prim.Native.Nat.{ℕ, _+_, _-_, _*_, _≤_, _<_, _/_}
+use Prim.Native.Nat.{ℕ, _+_, _-_, _≤_, _/_}
 use mathlib.Core.Path.{_≡_, refl, sym, ap, subst, _∙_}
 use mathlib.Core.List.{List}
 use native.Mathlib.Omega.{arith}
 use lib.ListN.{length}
 use borrow.Author.Needs.{needs}
 use Rattle.rules.specs.Records.{Header, header}
-use Rattle.rules.specs.Page.{Lent, headerAfter}
-use Rattle.editing.specs.Answers.{editNumbers, lent, lentAfter}
+use Rattle.editing.specs.Answers.{editNumbers, lent}
 use Rattle.editing.specs.declared.EditAnswer.{EditAnswer}
 use Rattle.fresh_page.proofs.FreshPages.{fresh-short}
 use Rattle.history.specs.Lists.{editsOf, Happened}

@@ -1,6 +1,6 @@
 -- `history::edit_at` meets its contract.
 -- Assumes nothing.
-use Prim.Native.Nat.{ℕ, _+_, _-_, _*_}
+use Prim.Native.Nat.{_+_, _-_, _*_}
 use mathlib.Core.Path.{_≡_, subst}
 use lib.ListN.{getD, take, drop}
 use Rattle.rules.specs.Records.{header}

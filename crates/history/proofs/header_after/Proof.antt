@@ -1,7 +1,7 @@
 -- `history::header_after` meets its contract.
 -- Assumes nothing.
-use Prim.Native.Nat.{ℕ, _+_, _*_, _≤_, _<_}
-use mathlib.Core.Path.{_≡_, refl, sym, ap, subst, _∙_}
+use Prim.Native.Nat.{_+_}
+use mathlib.Core.Path.{refl, sym, subst}
 use native.Mathlib.Omega.{arith}
 use Rattle.history.specs.Lists.{SmallAnswer}
 use Rattle.history.proofs.Lists.{head-edited, head-kept, other}

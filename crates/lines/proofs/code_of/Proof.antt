@@ -1,6 +1,5 @@
 -- `lines::code_of` meets its contract.
 -- Assumes nothing.
-use native.Mathlib.Omega.{arith}
 use Rattle.lines.proofs.Codes.{code-at, code-past}
 use borrow.Author.Needs.{needs}
 use Rattle.lines.proofs.code_of.Statement.{statement}

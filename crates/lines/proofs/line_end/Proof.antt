@@ -1,6 +1,5 @@
 -- `lines::line_end` meets its contract.
 -- Assumes nothing.
-use native.Mathlib.Omega.{arith}
 use Rattle.rules.specs.Reading.{notLF}
 use borrow.Author.Needs.{needs}
 use Rattle.lines.proofs.line_end.Statement.{statement}

@@ -1,11 +1,9 @@
 -- `lines::past_lf` meets its contract.
 -- Assumes nothing.
-use mathlib.Core.Path.{_≡_, refl, sym, ap, _∙_}
 use native.Mathlib.Omega.{arith}
 use native.Mathlib.Numerals.{add-one}
 use lib.ListN.{length}
 use borrow.Author.Tests.{lt-ltb, le-ltb}
-use borrow.Author.Needs.{needs}
 use Rattle.lines.proofs.past_lf.Statement.{statement}
 use Rattle.lines.proofs.past_lf.Tie as tie
 

@@ -1,10 +1,6 @@
 -- `planning::begin_line` meets its contract.
 -- Assumes nothing.
-use mathlib.Core.Path.{_≡_, refl, sym, ap, _∙_}
-use Prim.Native.Nat.{ℕ}
-use borrow.Author.Tests.{lt-ltb, le-ltb}
-use lib.ListN.{take}
-use Rattle.rules.specs.Reading.{countLF}
+use mathlib.Core.Path.{sym, _∙_}
 use Rattle.planning.proofs.Begins.{begin-m, begin-k, begin-i, begin-at, begin-not}
 use borrow.Author.Needs.{needs}
 use Rattle.planning.proofs.begin_line.Statement.{statement}

@@ -1,13 +1,12 @@
 -- `planning::count_part` meets its contract. So far the LFs of the first x bytes are counted.
 -- Assumes nothing.
-use Prim.Native.Nat.{ℕ, _+_, _-_, _≤_, _<_}
-use mathlib.Core.Path.{_≡_, refl, sym, ap, _∙_}
+use Prim.Native.Nat.{_-_, _≤_}
+use mathlib.Core.Path.{_≡_, refl, ap, _∙_}
 use native.Mathlib.Omega.{arith}
 use lib.Dec.{eqb}
 use lib.ListN.{length, getD, take, length-take}
 use lib.Seq.{take-all}
 use borrow.Author.Needs.{needs}
-use Rattle.rules.specs.Lists.{bit}
 use Rattle.rules.specs.Reading.{countLF}
 use Rattle.planning.proofs.Starts.{count-more, count-le, byte-bit, bit-le}
 use Rattle.planning.proofs.count_part.Statement.{statement}

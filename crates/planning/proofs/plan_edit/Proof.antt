@@ -1,12 +1,10 @@
 -- `planning::plan_edit` meets its contract.
 -- Assumes nothing.
 use Prim.Native.Nat.{ℕ, _+_, _-_, _*_, _≤_}
-use mathlib.Core.Path.{_≡_, refl, ap, subst, _∙_}
+use mathlib.Core.Path.{_≡_, refl, ap, subst}
 use mathlib.Core.List.{List}
 use native.Mathlib.Omega.{arith}
-use lib.ListN.{length, drop, length-drop, length-take}
-use lib.Seq.{take-all}
-use Rattle.rules.specs.Line.{State}
+use lib.ListN.{length, drop}
 use Rattle.rules.specs.Page.{Page}
 use Rattle.rules.specs.StopRule.{Edit}
 use Rattle.rules.specs.Records.{lineSize}

@@ -1,7 +1,7 @@
 -- `planning::usable` meets its contract.
 -- Assumes nothing.
-use Prim.Native.Nat.{ℕ, _+_, _*_, _≤_, _<_}
-use mathlib.Core.Path.{_≡_, refl, sym, ap, _∙_}
+use Prim.Native.Nat.{_+_, _*_}
+use mathlib.Core.Path.{sym}
 use native.Mathlib.Omega.{arith}
 use Rattle.rules.specs.Records.{lineSize}
 use Rattle.planning.proofs.Starts.{not-start, not-number, not-first, not-depth, only-levels}

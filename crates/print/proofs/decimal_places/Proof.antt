@@ -1,7 +1,7 @@
 -- `print::decimal_places` meets its contract. What is left has as many places as are to be counted.
 -- Assumes nothing.
-use Prim.Native.Nat.{ℕ, _+_, _≤_, _<_, _^_}
-use mathlib.Core.Path.{_≡_, refl}
+use Prim.Native.Nat.{_+_, _≤_}
+use mathlib.Core.Path.{_≡_}
 use native.Mathlib.Omega.{arith}
 use Rattle.rules.specs.Report.{placesFrom}
 use Rattle.print.proofs.Prints.{places-one, places-more, places-le}

@@ -1,14 +1,13 @@
 -- `print::put_bytes` meets its contract. So far the first j bytes stand there.
 -- Assumes nothing.
 use Prim.Native.Nat.{ℕ, _+_, _-_, _≤_}
-use mathlib.Core.Path.{_≡_, refl, sym, ap, _∙_}
+use mathlib.Core.Path.{_≡_, refl, ap, _∙_}
 use mathlib.Core.Bool.{true, false}
 use mathlib.Core.List.{List}
 use native.Mathlib.Omega.{arith}
 use lib.ListN.{length, take, getD, set}
 use lib.Seq.{sets, length-sets, take-all}
 use borrow.Author.Tests.{not-true, not-false}
-use Rattle.laws.specs.Puts.{putIf}
 use Rattle.laws.proofs.Sets.{copy-up}
 use Rattle.print.proofs.put_bytes.Statement.{statement}
 use Rattle.print.proofs.put_bytes.Tie as tie

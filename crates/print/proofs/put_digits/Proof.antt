@@ -1,17 +1,14 @@
 -- `print::put_digits` meets its contract. So far the last digits stand there.
 -- Assumes nothing.
-use Prim.Native.Nat.{ℕ, _+_, _-_, _%_, _/_, _≤_, _<_}
-use mathlib.Core.Path.{_≡_, refl, sym, ap, _∙_}
+use Prim.Native.Nat.{ℕ, _+_, _-_, _/_}
+use mathlib.Core.Path.{_≡_, refl, ap, _∙_}
 use mathlib.Core.Bool.{true, false}
 use mathlib.Core.List.{List}
 use native.Mathlib.Omega.{arith}
 use native.Mathlib.Nat.{mod-lt}
-use lib.ListN.{length, set}
-use lib.Seq.{sets, length-sets}
-use borrow.Author.Needs.{needs}
+use lib.ListN.{length}
+use lib.Seq.{length-sets}
 use borrow.Author.Tests.{not-true, not-false}
-use Rattle.laws.specs.Puts.{putIf}
-use Rattle.rules.specs.Report.{digitsIn}
 use Rattle.print.proofs.Prints.{Digits, digits-start, digits-more, digits-done}
 use Rattle.print.proofs.put_digits.Statement.{statement}
 use Rattle.print.proofs.put_digits.Tie as tie

@@ -1,14 +1,13 @@
 -- `print::put_fill` meets its contract. So far j bytes stand there.
 -- Assumes nothing.
 use Prim.Native.Nat.{ℕ, _+_, _-_, _≤_}
-use mathlib.Core.Path.{_≡_, refl, sym, ap, _∙_}
+use mathlib.Core.Path.{_≡_, refl, ap, _∙_}
 use mathlib.Core.Bool.{true, false}
 use mathlib.Core.List.{List}
 use native.Mathlib.Omega.{arith}
 use lib.ListN.{length, replicate, set}
 use lib.Seq.{sets, length-sets}
 use borrow.Author.Tests.{not-true, not-false}
-use Rattle.laws.specs.Puts.{putIf}
 use Rattle.print.proofs.Prints.{fill-up}
 use Rattle.print.proofs.put_fill.Statement.{statement}
 use Rattle.print.proofs.put_fill.Tie as tie

@@ -1,7 +1,6 @@
 -- `reading::read` meets its contract.
 -- Assumes nothing.
-use mathlib.Core.Path.{_≡_, sym, ap}
-use mathlib.Core.List.{List}
+use mathlib.Core.Path.{sym, ap}
 use borrow.Author.Needs.{needs}
 use Rattle.rules.specs.Limits.{Limits}
 use Rattle.rules.specs.Records.{freshReadingBy, freshReading}

@@ -1,6 +1,6 @@
 -- `report::report_unread` meets its contract.
 -- Assumes nothing.
-use mathlib.Core.Path.{_≡_, subst}
+use mathlib.Core.Path.{subst}
 use borrow.Author.Needs.{needs}
 use Rattle.report.specs.Answers.{Reportable}
 use Rattle.report.proofs.Reports.{failed-answer, other-answer}

@@ -1,13 +1,9 @@
 -- `rereading::first_from` meets its contract. So far every record from j up to r starts before the byte.
 -- Assumes nothing.
-use Prim.Native.Nat.{ℕ, _+_, _-_, _*_, _≤_, _<_}
-use mathlib.Core.Path.{_≡_, refl}
+use Prim.Native.Nat.{ℕ, _-_, _*_, _≤_, _<_}
 use native.Mathlib.Omega.{arith}
-use lib.ListN.{length}
-use borrow.Author.Needs.{needs}
 use Rattle.rules.specs.Records.{lineSize}
 use Rattle.records.specs.Words.{startWord}
-use Rattle.rereading.specs.Words.{FirstFrom}
 use Rattle.rereading.proofs.Words.{before-more}
 use Rattle.rereading.proofs.first_from.Statement.{statement}
 use Rattle.rereading.proofs.first_from.Tie as tie

@@ -8,7 +8,7 @@ use lib.ListN.{length, replicate}
 use borrow.Author.Needs.{needs}
 use Rattle.rules.specs.Limits.{LineLimits}
 use Rattle.rules.specs.Line.{State}
-use Rattle.rules.specs.Reading.{Reading, linesOf, readFrom}
+use Rattle.rules.specs.Reading.{linesOf, readFrom}
 use Rattle.rules.specs.Records.{lineSize}
 use Rattle.refusals.specs.Limits.{lineLimitsOf}
 use Rattle.records.specs.States.{stateOf}

@@ -1,17 +1,12 @@
 -- `rereading::rewrite_lines` meets its contract: every line reads, so the end is reached.
 -- Assumes nothing.
-use Prim.Native.Nat.{ℕ, _+_, _*_}
-use mathlib.Core.Path.{_≡_, refl, subst}
-use mathlib.Core.Bool.{Bool, true}
-use mathlib.Core.List.{List, [], _∷_}
-use mathlib.Core.Logic.{inr, ⊎-elim}
-use native.Mathlib.Omega.{arith}
+use Prim.Native.Nat.{_+_, _*_}
+use mathlib.Core.Path.{_≡_, subst}
+use mathlib.Core.Bool.{Bool}
+use mathlib.Core.Logic.{inr}
 use lib.ListN.{length}
-use types.Run.{OneOf}
-use denote.Enum.Declared.{tagOf}
 use borrow.Author.Needs.{needs}
 use Rattle.rules.specs.Limits.{LineLimits}
-use Rattle.rules.specs.Line.{State}
 use Rattle.rules.specs.Reading.{Reading, linesOf, readFrom, linesRead}
 use Rattle.rules.specs.Records.{lineSize, tokenSize, lineRecords, tokenRecords}
 use Rattle.laws.specs.Puts.{putIf}
@@ -19,7 +14,6 @@ use Rattle.refusals.specs.Limits.{lineLimitsOf}
 use Rattle.records.specs.States.{stateOf}
 use Rattle.rereading.specs.Rewrites.{MayWrite, EndIs}
 use Rattle.rereading.specs.declared.ReadToEnd.{ReadToEnd}
-use Rattle.rereading.specs.declared.ReadToEnd.the-variants.{Ends, Refused}
 use Rattle.rereading.proofs.Rewrites.{may-read, reached}
 use Rattle.rereading.proofs.rewrite_lines.Statement.{statement}
 use Rattle.rereading.proofs.rewrite_lines.Tie as tie
