@@ -60,6 +60,19 @@ pub fn past_blank(t: Cursor) -> Cursor
     }
 }
 
+// Behind a token of this kind and length.
+pub fn behind_token(t: Cursor, kind: u32, size: usize) -> Cursor
+    requires { ⌜ (t .at + size ≤ 1_048_576) × ((t .n ≤ 8_388_608) × (t .open ≤ 8_388_608)) ⌝ }
+    ensures { λ r. ⌜ r ≡ tokenPast t kind size ⌝ }
+{
+    Cursor {
+        at: t.at + size,
+        n: t.n + 1,
+        open: depth_by(t.open, kind),
+        arrow: kind == 67,
+    }
+}
+
 // Past a token of this kind and length, which is put into its record where the pass writes.
 pub fn past_token(
     tokens: &mut [u32],
@@ -74,12 +87,7 @@ pub fn past_token(
     ensures { λ _. ⌜ now (tokens .exit) ≡ putIf (place .write) (now (tokens .entry)) (tokenSize * (place .first + t .n)) (wordsAt place (t .at) kind size) ⌝ }
 {
     records::put_token(tokens, place, t.n, kind, t.at as u32, size as u32);
-    Cursor {
-        at: t.at + size,
-        n: t.n + 1,
-        open: depth_by(t.open, kind),
-        arrow: kind == 67,
-    }
+    behind_token(t, kind, size)
 }
 
 // Past the sign of this code. Most signs have one byte; that length is known without waiting for the code.

@@ -1,3 +1,4 @@
 pub mod Fronts
 pub mod Plain
 pub mod Words
+pub mod Scans

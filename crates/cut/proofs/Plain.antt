@@ -67,7 +67,7 @@ plain-above : (j n : ℕ) → Ident < j → n ≡ j → plainKind n ≡ j
 unfolding plainKind
 plain-above j n h q = rw (le-ltb n Ident (omega arith)) q
 
-plain-back : (j n : ℕ) → Ident < j → plainKind n ≡ j → n ≡ j
+pub plain-back : (j n : ℕ) → Ident < j → plainKind n ≡ j → n ≡ j
 unfolding plainKind
 plain-back j n h q = go (ltb n Ident) q
   where

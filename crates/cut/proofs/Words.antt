@@ -1,21 +1,21 @@
 -- Words at an index of a line, and the cuts that hold no word: those are the same with the kinds of words or without.
 -- Assumes nothing.
 use Prim.Native.Nat.{ℕ, _+_, _-_, _/_, _%_, _<_}
-use Prim.Native.Char.{code}
 use mathlib.Core.Path.{_≡_, refl, sym, ap, _∙_}
 use mathlib.Core.Bool.{Bool, true, false}
-use mathlib.Core.List.{List, [], _∷_}
+use mathlib.Core.List.{List}
 use native.Mathlib.Omega.{arith}
 use native.Mathlib.Numerals.{add-one}
-use lib.Dec.{ltb, leb, eqb}
+use lib.Dec.{ltb, leb}
 use lib.ListN.{length, getD, drop, take}
 use lib.Seq.{drop-cons}
-use borrow.Author.Tests.{leb-true, le-ltb, ne-eqb}
-use Rattle.rules.specs.Lists.{within, ascii, elem, every, begins, run, same, trimEnd}
+use borrow.Author.Tests.{leb-true, le-ltb, ltb-false, ne-eqb}
+use Rattle.rules.specs.Lists.{ascii, begins, run}
 use Rattle.rules.specs.Kinds.{Ident, Num}
-use Rattle.rules.specs.Tables.{Spelling, isCR, isHexDigit, blankClass, hashClass, letterClass, digitClass, signClass, classOf, keywords, signs, wordKind, tableRules}
-use Rattle.rules.specs.Cut.{Cut, blank, comment, token, inWord, wordCut, letterCut, Number, scanNumber, numberCut, stringEnd, stringCut, closingCut, lowDigitCut, highDigitCut, escapeCut, contentCut, byteCut, signCut, cutBy, cut}
-use Rattle.rules.proofs.ListLaws.{if-by, and-true}
+use Rattle.rules.specs.Tables.{blankClass, hashClass, letterClass, digitClass, signClass, classOf, keywords, signs, wordKind, tableRules}
+use Rattle.rules.specs.Cut.{Cut, blank, comment, ends, token, fails, inWord, wordCut, letterCut, Number, scanNumber, numberCut, stringCut, byteCut, signCut, cutBy, cut}
+use Rattle.rules.proofs.ListLaws.{if-by}
+use Rattle.rules.proofs.KindLaws.{OfKind, everyKind, word-by, sign-by, string-by, byte-by}
 use Rattle.tables.specs.Bytes.{reaches}
 use Rattle.tables.specs.Signs.{signCode}
 use Rattle.signs.specs.Codes.{codeCut}
@@ -26,19 +26,20 @@ use Rattle.cut.specs.Cuts.{plainKind, plainCut, kindAsked, cutNamed, com
 -- Words.
 
 -- a keyword's kind is below that of an identifier
-keywords-below : every (λ (k : Spelling). ltb (k .kind) Ident) keywords ≡ true
-unfolding tableRules
-keywords-below = refl
+isLow : ℕ → Bool
+isLow k = leb k Ident
 
-plain-word-kind : (w : List ℕ) (ks : List Spelling) → every (λ (k : Spelling). ltb (k .kind) Ident) ks ≡ true → plainKind (wordKind ks w) ≡ Ident
-unfolding wordKind every plainKind
-plain-word-kind w [] e = refl
-plain-word-kind w (k ∷ ks) e =
-    let p = and-true (ltb (k .kind) Ident) (every (λ (k : Spelling). ltb (k .kind) Ident) ks) e in
-    if-by (λ n. plainKind n ≡ Ident) (same (k .bytes) w) (λ _. rw (p .0)) (λ _. plain-word-kind w ks (p .1))
+keywords-low : everyKind isLow keywords ≡ true
+unfolding isLow tableRules
+keywords-low = refl
+
+low-plain : (k : ℕ) → isLow k ≡ true → plainKind k ≡ Ident
+unfolding isLow plainKind
+low-plain k h = if-by (λ n. n ≡ Ident) (ltb k Ident) (λ _. refl) (λ e. omega (arith, leb-true k Ident h, ltb-false k Ident e))
 
 pub word-below : (w : List ℕ) → plainKind (wordKind keywords w) ≡ Ident
-word-below w = plain-word-kind w keywords keywords-below
+unfolding isLow
+word-below w = low-plain (wordKind keywords w) (word-by isLow keywords w refl keywords-low)
 
 pub named-below : (write : Bool) (w : List ℕ) → plainKind (kindAsked write (wordKind keywords w)) ≡ Ident
 unfolding plainKind
@@ -65,62 +66,31 @@ module _ (line : List ℕ) (at end : ℕ) (e : end ≡ at + run (reaches 0) (dro
 abbrev Plain : Cut → Type 0
 Plain c = plainCut c ≡ c
 
-closing-plain : (k : ℕ) (s : List ℕ) → Plain (closingCut k s)
-unfolding closingCut plainKind
-closing-plain k [] = refl
-closing-plain k (c ∷ s) = if-by Plain (eqb c (code "'")) (λ _. refl) (λ _. refl)
-
-low-plain : (s : List ℕ) → Plain (lowDigitCut s)
-unfolding lowDigitCut
-low-plain [] = refl
-low-plain (c ∷ s) = if-by Plain (isHexDigit c) (λ _. closing-plain 6 s) (λ _. refl)
-
-high-plain : (s : List ℕ) → Plain (highDigitCut s)
-unfolding highDigitCut
-high-plain [] = refl
-high-plain (c ∷ s) = if-by Plain (within (code "0") (code "7") c) (λ _. low-plain s) (λ _. if-by Plain (isHexDigit c) (λ _. refl) (λ _. refl))
-
-escape-plain : (s : List ℕ) → Plain (escapeCut s)
-unfolding escapeCut
-escape-plain [] = refl
-escape-plain (c ∷ s) =
-    if-by Plain (elem c (ascii "0tnr'\\\"")) (λ _. closing-plain 4 s) (λ _. if-by Plain (eqb c (code "x")) (λ _. high-plain s) (λ _. refl))
-
-content-plain : (s : List ℕ) → Plain (contentCut s)
-unfolding contentCut
-content-plain [] = refl
-content-plain (c ∷ s) =
-    if-by Plain (eqb c (code "'")) (λ _. refl)
-    (λ _. if-by Plain (eqb c (code "\\")) (λ _. escape-plain s)
-    (λ _. if-by Plain (within 0x20 0x7E c) (λ _. closing-plain 3 s)
-    (λ _. if-by Plain (ltb c 0x80) (λ _. refl) (λ _. refl))))
+of-kind-plain : (c : Cut) → OfKind (leb Ident) c → Plain c
+unfolding plainKind
+of-kind-plain blank h = refl
+of-kind-plain comment h = refl
+of-kind-plain ends h = refl
+of-kind-plain (token k n) h = rw (le-ltb k Ident (leb-true Ident k h))
+of-kind-plain (fails f) h = refl
 
 pub byte-plain : (s : List ℕ) → Plain (byteCut s)
-unfolding byteCut
-byte-plain s = content-plain (drop 2 (trimEnd isCR s))
+byte-plain s = of-kind-plain (byteCut s) (byte-by (leb Ident) refl s)
 
 pub number-plain : (s : List ℕ) → Plain (numberCut s)
-unfolding numberCut plainKind
-number-plain s = refl
+unfolding numberCut
+number-plain s = of-kind-plain (numberCut s) refl
 
 pub string-plain : (s : List ℕ) → Plain (stringCut s)
-unfolding stringCut plainKind
-string-plain s = if-by Plain (ltb (stringEnd s) (length s)) (λ _. refl) (λ _. refl)
+string-plain s = of-kind-plain (stringCut s) (string-by (leb Ident) s refl)
 
 -- no sign's kind is below that of an identifier
-signs-above : every (λ (k : Spelling). leb Ident (k .kind)) signs ≡ true
+signs-above : everyKind (leb Ident) signs ≡ true
 unfolding tableRules
 signs-above = refl
 
-sign-plain : (s : List ℕ) (ks : List Spelling) → every (λ (k : Spelling). leb Ident (k .kind)) ks ≡ true → Plain (signCut ks s)
-unfolding signCut every plainKind
-sign-plain s [] e = refl
-sign-plain s (k ∷ ks) e =
-    let p = and-true (leb Ident (k .kind)) (every (λ (k : Spelling). leb Ident (k .kind)) ks) e in
-    if-by Plain (begins (k .bytes) s) (λ _. rw (le-ltb (k .kind) Ident (leb-true _ _ (p .0)))) (λ _. sign-plain s ks (p .1))
-
 any-sign-plain : (s : List ℕ) → Plain (signCut signs s)
-any-sign-plain s = sign-plain s signs signs-above
+any-sign-plain s = of-kind-plain (signCut signs s) (sign-by (leb Ident) signs s signs-above)
 
 pub sign-or-plain : (s : List ℕ) → Plain (commentOr s)
 sign-or-plain s = if-by Plain (begins (ascii "//") s) (λ _. refl) (λ _. any-sign-plain s)
@@ -155,9 +125,9 @@ module _ (w : Bool) (line : List ℕ) (at : ℕ) (h : at < length line) where
       let letter : cutBy letterClass (drop at line) ≡ wordCut (drop at line) = rw b in
       sym (in-class letterClass e) ∙ ap (cutNamed w) letter ∙ sym (word-asked line at end is w)
 
-  pub number-token : classOf (getD line at 0) ≡ digitClass → (n : Number) → n ≡ scanNumber (drop at line) → cutNamed w (cut (drop at line)) ≡ token Num (n .digits + n .suffix)
+  pub number-token : classOf (getD line at 0) ≡ digitClass → (n : Number) → n ≡ scanNumber (drop at line) → cutNamed w (cut (drop at line)) ≡ token Num (n .end)
   unfolding cutBy numberCut
-  number-token e n is = sym (plain-class digitClass e (number-plain (drop at line))) ∙ ap (λ (x : Number). token Num (x .digits + x .suffix)) (sym is)
+  number-token e n is = sym (plain-class digitClass e (number-plain (drop at line))) ∙ ap (λ (x : Number). token Num (x .end)) (sym is)
 
   pub sign-token : classOf (getD line at 0) ≡ signClass → (c : ℕ) → c ≡ signCode (drop at line) → 1 < c → cutNamed w (cut (drop at line)) ≡ token (c % 128) (c / 128 + 1)
   unfolding cutBy

@@ -1,6 +1,7 @@
--- A comment or a sign, and cuts with the kinds of words or without.
+-- A comment or a sign, a number with its scan, and cuts with the kinds of words or without.
 -- Assumes nothing.
 use Prim.Native.Nat.{ℕ}
+use mathlib.Core.Path.{_≡_}
 use mathlib.Core.Bool.{Bool, true, false}
 use mathlib.Core.List.{List}
 use lib.Dec.{ltb}
@@ -8,10 +9,21 @@ use Rattle.rules.specs.Lists.{if_then_else_, ascii, begins}
 use Rattle.rules.specs.Kinds.{Ident}
 use Rattle.rules.specs.Tables.{signs}
 use Rattle.rules.specs.Cut as rules-cut
+use Rattle.numbers.specs.Numbers.{numberOf}
+use Rattle.literals.specs.declared.Cut as cut
+use Rattle.literals.specs.declared.Cut.the-variants as a-cut
 
 -- a comment, or a sign
 abbrev pub commentOr : List ℕ → rules-cut.Cut
 commentOr s = if begins (ascii "//") s then rules-cut.Cut.comment else rules-cut.signCut signs s
+
+-- a number has the scan of what it is cut from
+abbrev pub Scanned : cut.Cut → List ℕ → Type 0
+Scanned a-cut.Blank s = Unit {0}
+Scanned a-cut.Comment s = Unit {0}
+Scanned (a-cut.Token k n) s = Unit {0}
+Scanned (a-cut.Number n) s = numberOf n ≡ rules-cut.scanNumber s
+Scanned (a-cut.Fails f) s = Unit {0}
 
 -- A pass that only counts takes every word for an Ident.
 

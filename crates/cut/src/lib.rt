@@ -4,20 +4,10 @@ ghost use Prim.Native.Nat.{_-_, _≤_, _<_};
 ghost use lib.ListN.{length, drop, take};
 ghost use Rattle.rules.specs.Lists.{ascii, begins};
 ghost use Rattle.rules.specs.Tables.{keywords, wordKind};
-ghost use Rattle.rules.specs.Cut.{numberCut, wordCut, letterCut, cut};
+ghost use Rattle.rules.specs.Cut.{wordCut, letterCut, cut};
 ghost use Rattle.tables.specs.All.{allTables};
 ghost use Rattle.literals.specs.Cuts.{cutOf};
-ghost use Rattle.cut.specs.Cuts.{kindAsked, cutNamed, commentOr};
-
-// A number, with its suffix.
-fn number_cut(tables: &[u8; tables::SIZE], line: &[u8], at: usize) -> literals::Cut
-    requires { ⌜ now tables ≡ allTables ⌝ }
-    requires { ⌜ at ≤ length (now line) ⌝ }
-    ensures { λ r. ⌜ cutOf r ≡ numberCut (drop at (now (line .entry))) ⌝ }
-{
-    let number = numbers::scan_number(tables, line, at);
-    literals::Cut::Token(46, number.digits + number.suffix)
-}
+ghost use Rattle.cut.specs.Cuts.{kindAsked, cutNamed, commentOr, Scanned};
 
 // The kind of the word from `at` to `end`, where it is asked for; otherwise every word is an Ident.
 pub fn kind_of_word(
@@ -102,12 +92,13 @@ pub fn cut_by_class(
     requires { ⌜ now tables ≡ allTables ⌝ }
     requires { ⌜ at < length (now line) ⌝ }
     ensures { λ r. ⌜ cutOf r ≡ cutNamed named (cut (drop at (now (line .entry)))) ⌝ }
+    ensures { λ r. ⌜ Scanned r (drop at (now (line .entry))) ⌝ }
 {
     match runs::class_of(tables, line[at]) {
         0 => literals::Cut::Blank,
         1 => literals::Cut::Comment,
         2 => letter_cut(tables, line, at, named),
-        3 => number_cut(tables, line, at),
+        3 => literals::Cut::Number(numbers::scan_number(tables, line, at)),
         4 => literals::string_cut(line, at),
         5 => sign_or_comment(tables, line, at),
         _ => literals::finding_at(line, at, 0, 1),

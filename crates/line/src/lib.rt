@@ -83,7 +83,7 @@ fn cut_line(
         }
         if c == 3 {
             let number = numbers::scan_number(tables, line, at);
-            t = cursor::past_token(tokens, place, t, 46, number.digits + number.suffix);
+            t = cursor::past_token(tokens, place, t, 46, number.end);
             continue;
         }
         if c == 5 {
@@ -102,6 +102,9 @@ fn cut_line(
             }
             literals::Cut::Token(kind, size) => {
                 t = cursor::past_token(tokens, place, t, kind, size);
+            }
+            literals::Cut::Number(number) => {
+                t = cursor::past_token(tokens, place, t, 46, number.end);
             }
             literals::Cut::Fails(f) => {
                 return LineCuts::Stops(moved_by(at, f));

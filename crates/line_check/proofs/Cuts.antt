@@ -16,7 +16,8 @@ use Rattle.rules.specs.Cut.{blank, comment, token, fails, cut}
 use Rattle.rules.specs.Line.{Token, tokenAt, Cuts, cuts, stops, withToken, movedBy, cutsFrom, depthAfter, arrowAfter}
 use Rattle.rules.specs.Records.{tokenSize, tokenWords}
 use Rattle.rules.proofs.CutLaws.{cuts-end, cuts-blank, cuts-comment, cuts-token, cuts-fails}
-use Rattle.cursor.specs.Cursors.{depthBy}
+use Rattle.cursor.specs.Cursors.{depthBy, cursorAt, blankPast, tokenPast}
+use Rattle.cursor.specs.declared.Cursor.{Cursor}
 use Rattle.line.specs.LineCuts.{lineCutsOf, tokensOf}
 use Rattle.cursor.proofs.Depths.{depth-by-le}
 use Rattle.line.proofs.Progress.{token-at}
@@ -84,63 +85,68 @@ module _ (p number k : ℕ) (tokens : List ℕ) where
 
   -- The loop, in a line before which the depth was d₀.
   module _ (l : List ℕ) (d₀ : ℕ) where
-    abbrev answer : SameCuts
+    abbrev pub answer : SameCuts
     answer = sameCutsIf (begins (tokenWords p number (tokensOf (cutsFrom 0 0 l))) (drop (tokenSize * k) tokens)) (lineCutsOf d₀ (cutsFrom 0 0 l))
 
-    pub record SameTo (at n d : ℕ) (a : Bool) : Type 0 where
-      pub inside : at ≤ length l
-      pub few : n ≤ at
-      pub shallow : d ≤ d₀ + at
-      pub left : rest n d a (cutsFrom at 0 (drop at l)) ≡ answer
+    pub record SameTo (t : Cursor) : Type 0 where
+      pub inside : t .at ≤ length l
+      pub few : t .n ≤ t .at
+      pub shallow : t .«open» ≤ d₀ + t .at
+      pub left : rest (t .n) (t .«open») (t .arrow) (cutsFrom (t .at) 0 (drop (t .at) l)) ≡ answer
 
-    pub start : SameTo 0 0 d₀ false
+    pub start : SameTo (cursorAt 0 d₀)
     start = record { inside = omega arith; few = omega arith; shallow = omega arith; left = all-left d₀ (cutsFrom 0 0 l) }
 
-module _ {p number k : ℕ} {tokens l : List ℕ} {d₀ at n d : ℕ} {a : Bool} (v : SameTo p number k tokens l d₀ at n d a) where
+module _ {p number k : ℕ} {tokens l : List ℕ} {d₀ : ℕ} {t : Cursor} (v : SameTo p number k tokens l d₀ t) where
+  abbrev at : ℕ
+  at = t .at
+
   abbrev goal : SameCuts
   goal = answer p number k tokens l d₀
 
-  abbrev left-of : (n d : ℕ) → Bool → Cuts → SameCuts
-  left-of = rest p number k tokens
+  abbrev left-of : Cuts → SameCuts
+  left-of = rest p number k tokens (t .n) (t .«open») (t .arrow)
 
-  left-as : (x : Cuts) → cutsFrom at 0 (drop at l) ≡ x → left-of n d a x ≡ goal
-  left-as x e = ap (left-of n d a) (sym e) ∙ v .left
+  left-as : (x : Cuts) → cutsFrom at 0 (drop at l) ≡ x → left-of x ≡ goal
+  left-as x e = ap left-of (sym e) ∙ v .left
 
-  pub at-end : length l ≤ at → Ends n d a ≡ goal
-  at-end h = sym (none-left p number k tokens n d a) ∙ left-as (cuts []) (cuts-end at l h)
+  pub at-end : length l ≤ at → Ends (t .n) (t .«open») (t .arrow) ≡ goal
+  at-end h = sym (none-left p number k tokens (t .n) (t .«open») (t .arrow)) ∙ left-as (cuts []) (cuts-end at l h)
 
   module _ (h : at < length l) where
-    pub at-comment : cut (drop at l) ≡ comment → Ends n d a ≡ goal
-    at-comment e = sym (none-left p number k tokens n d a) ∙ left-as (cuts []) (cuts-comment at l h e)
+    pub at-comment : cut (drop at l) ≡ comment → Ends (t .n) (t .«open») (t .arrow) ≡ goal
+    at-comment e = sym (none-left p number k tokens (t .n) (t .«open») (t .arrow)) ∙ left-as (cuts []) (cuts-comment at l h e)
 
     pub at-failure : (f : Failure) → cut (drop at l) ≡ fails f → Differs ≡ goal
     at-failure f e = left-as (stops (movedBy at f)) (cuts-fails at l h f e)
 
-    pub past-blank : cut (drop at l) ≡ blank → SameTo p number k tokens l d₀ (at + 1) n d a
+    pub past-blank : cut (drop at l) ≡ blank → SameTo p number k tokens l d₀ (blankPast t)
     past-blank e = record { inside = omega arith; few = omega (arith, v .few); shallow = omega (arith, v .shallow); left = left-as _ (cuts-blank at l h e) }
 
     module _ (kind size : ℕ) (e : cut (drop at l) ≡ token kind size) where
       pub token-inside : (0 < size) × (at + size ≤ length l)
-      token-inside = let t = token-at true l at kind size h e in (t .some-bytes, t .in-line)
+      token-inside = let x = token-at true l at kind size h e in (x .some-bytes, x .in-line)
 
       abbrev words : List ℕ
       words = kind ∷ (p + at) ∷ size ∷ number ∷ (at + 1) ∷ []
 
-      same-words : (b : Bool) → b ≡ begins words (drop (tokenSize * (k + n)) tokens) → begins (oneToken p number (tokenAt kind at size)) (drop (tokenSize * (k + n)) tokens) ≡ b
-      same-words b q = ap (λ (i : ℕ). begins (kind ∷ (p + at) ∷ size ∷ number ∷ i ∷ []) (drop (tokenSize * (k + n)) tokens)) (sym (add-one at)) ∙ sym q
+      abbrev later : Cuts
+      later = cutsFrom (at + size) 0 (drop (at + size) l)
 
-      pub other-token : false ≡ begins words (drop (tokenSize * (k + n)) tokens) → Differs ≡ goal
-      other-token q =
-          sym (one-differs p number k tokens n d a (tokenAt kind at size) (same-words false q) (cutsFrom (at + size) 0 (drop (at + size) l)))
-          ∙ left-as (withToken (tokenAt kind at size) (cutsFrom (at + size) 0 (drop (at + size) l))) (cuts-token at l h kind size e)
+      same-words : (b : Bool) → b ≡ begins words (drop (tokenSize * (k + t .n)) tokens) → begins (oneToken p number (tokenAt kind at size)) (drop (tokenSize * (k + t .n)) tokens) ≡ b
+      same-words b q = ap (λ (i : ℕ). begins (kind ∷ (p + at) ∷ size ∷ number ∷ i ∷ []) (drop (tokenSize * (k + t .n)) tokens)) (sym (add-one at)) ∙ sym q
 
-      pub past-token : true ≡ begins words (drop (tokenSize * (k + n)) tokens) → (d′ : ℕ) → d′ ≡ depthBy d kind → SameTo p number k tokens l d₀ (at + size) (n + 1) d′ (eqb kind Implies)
-      past-token q d′ ed =
+      left-then : left-of (withToken (tokenAt kind at size) later) ≡ goal
+      left-then = left-as (withToken (tokenAt kind at size) later) (cuts-token at l h kind size e)
+
+      pub other-token : false ≡ begins words (drop (tokenSize * (k + t .n)) tokens) → Differs ≡ goal
+      other-token q = sym (one-differs p number k tokens (t .n) (t .«open») (t .arrow) (tokenAt kind at size) (same-words false q) later) ∙ left-then
+
+      pub past-token : true ≡ begins words (drop (tokenSize * (k + t .n)) tokens) → SameTo p number k tokens l d₀ (tokenPast t kind size)
+      past-token q =
           record {
             inside = token-inside .1;
             few = omega (arith, v .few, token-inside .0);
-            shallow = omega (arith, v .shallow, ed, depth-by-le d kind, token-inside .0);
-            left = ap (λ (i : ℕ). left-of (n + 1) i (eqb kind Implies) (cutsFrom (at + size) 0 (drop (at + size) l))) ed
-                ∙ sym (one-agrees p number k tokens n d a (tokenAt kind at size) (same-words true q) (cutsFrom (at + size) 0 (drop (at + size) l)))
-                ∙ left-as (withToken (tokenAt kind at size) (cutsFrom (at + size) 0 (drop (at + size) l))) (cuts-token at l h kind size e);
+            shallow = omega (arith, v .shallow, depth-by-le (t .«open») kind, token-inside .0);
+            left = sym (one-agrees p number k tokens (t .n) (t .«open») (t .arrow) (tokenAt kind at size) (same-words true q) later) ∙ left-then;
           }

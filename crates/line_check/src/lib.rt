@@ -10,6 +10,7 @@ ghost use Rattle.rules.specs.Records.{lineSize, tokenSize, lineRecord, tokenWor
 ghost use Rattle.tables.specs.All.{allTables};
 ghost use Rattle.refusals.specs.Limits.{lineLimitsOf};
 ghost use Rattle.records.specs.States.{stateOf};
+ghost use Rattle.records.specs.Words.{wordsAt};
 ghost use Rattle.levels.specs.Levels.{leading};
 ghost use Rattle.line.specs.LineCuts.{lineCutsOf, tokensOf, wholeLine, lineReadOf, tokensIn, counted};
 ghost use Rattle.line_check.specs.Same.{sameCutsIf, sameLineIf, agreedIf, agreedOf, LevelsWithin};
@@ -62,6 +63,21 @@ fn leading_size(lead: levels::Lead) -> usize
     lead.closes
 }
 
+// The token of this kind and length that the cursor stands at has its record among the line's tokens from its m-th on.
+fn same_at(
+    tokens: &[u32],
+    place: records::Place,
+    m: usize,
+    t: cursor::Cursor,
+    kind: u32,
+    size: usize,
+) -> bool
+    requires { ⌜ (place .start + (t .at + size) ≤ 1_048_576) × ((place .first + m + t .n ≤ 10_000_000) × (place .line ≤ 1_048_576)) ⌝ }
+    ensures { λ r. ⌜ r ≡ begins (wordsAt place (t .at) kind size) (drop (tokenSize * (place .first + m + t .n)) (now (tokens .entry))) ⌝ }
+{
+    records::same_token(tokens, place, m + t.n, kind, t.at as u32, size as u32)
+}
+
 // The line's tokens from its m-th on begin with those of its cuts.
 fn same_cuts(
     tables: &[u8; tables::SIZE],
@@ -75,34 +91,33 @@ fn same_cuts(
     requires { ⌜ (place .start + length (now line) ≤ 1_048_576) × ((depth ≤ 4_194_304) × ((place .first + m ≤ 4_194_304) × (place .line ≤ 1_048_576))) ⌝ }
     ensures { λ r. ⌜ r ≡ sameCutsIf (begins (tokenWords (place .start) (place .line + 1) (tokensOf (cutsFrom 0 0 (now (line .entry))))) (drop (tokenSize * (place .first + m)) (now (tokens .entry)))) (lineCutsOf depth (cutsFrom 0 0 (now (line .entry)))) ⌝ }
 {
-    let mut at: usize = 0;
-    let mut n: usize = 0;
-    let mut open = depth;
-    let mut arrow = false;
-    while at < line.len() {
-        match cut::cut_by_class(tables, line, at, true) {
+    let mut t = cursor::cursor_at(0, depth);
+    while t.at < line.len() {
+        match cut::cut_by_class(tables, line, t.at, true) {
             literals::Cut::Blank => {
-                at += 1;
-                continue;
+                t = cursor::past_blank(t);
             }
             literals::Cut::Comment => {
-                return SameCuts::Ends(n, open, arrow);
+                return SameCuts::Ends(t.n, t.open, t.arrow);
             }
             literals::Cut::Token(kind, size) => {
-                if !records::same_token(tokens, place, m + n, kind, at as u32, size as u32) {
+                if !same_at(tokens, place, m, t, kind, size) {
                     return SameCuts::Differs;
                 }
-                open = cursor::depth_by(open, kind);
-                arrow = kind == 67;
-                n += 1;
-                at += size;
+                t = cursor::behind_token(t, kind, size);
+            }
+            literals::Cut::Number(number) => {
+                if !same_at(tokens, place, m, t, 46, number.end) {
+                    return SameCuts::Differs;
+                }
+                t = cursor::behind_token(t, 46, number.end);
             }
             literals::Cut::Fails(_) => {
                 return SameCuts::Differs;
             }
         }
     }
-    SameCuts::Ends(n, open, arrow)
+    SameCuts::Ends(t.n, t.open, t.arrow)
 }
 
 // A line whose levels are known: what stands at its start, its cuts, and the Newline.

@@ -26,11 +26,13 @@ pub struct Failure {
     pub size: usize,
 }
 
-// What is cut at the front of the rest of a line: a blank byte, a comment, a token of this kind and length, or a failure.
+// What is cut at the front of the rest of a line: a blank byte, a comment, a token of this kind and length, a number with its scan, or a
+// failure.
 pub enum Cut {
     Blank,
     Comment,
     Token(u32, usize),
+    Number(numbers::Number),
     Fails(Failure),
 }
 

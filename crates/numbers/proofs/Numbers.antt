@@ -11,7 +11,7 @@ use lib.Seq.{drop-cons, drop-drop}
 use borrow.Author.Tests.{eq-eqb, ne-eqb, lt-ltb}
 use Rattle.rules.specs.Lists.{if_then_else_, ascii, begins, run}
 use Rattle.rules.specs.Tables.{isDigit}
-use Rattle.rules.specs.Cut.{inDecimal, fractionSize, decimalSize, digitsSize, suffixes, suffixSize}
+use Rattle.rules.specs.Cut.{inDecimal, fractionSize, decimalSize, isHex, digitsSize, noSuffix, fx, i32, u32, f64, suffixBytes, suffixes, suffixOf}
 use Rattle.rules.proofs.ListLaws.{run-pass, run-stop, run-end}
 use Rattle.tables.specs.Bytes.{reaches}
 use Rattle.runs.proofs.ReachLaws.{run-decimal, run-hex}
@@ -47,46 +47,40 @@ module _ (l : List ℕ) (i : ℕ) where
         fraction-step ∙ rw (here, run-pass isDigit l (i + 1) h d, lt-ltb 0 (suc (run isDigit (drop (i + 1 + 1) l))) (omega arith), run-decimal (drop (i + 1) l))
 
   -- hex digits, after `0x` or `0X`; otherwise a decimal number
-  hex-size : (begins (ascii "0x") (drop i l) || begins (ascii "0X") (drop i l)) ≡ true → digitsSize (drop i l) ≡ 2 + run (reaches 1) (drop (i + 2) l)
+  pub hex-digits : isHex (drop i l) ≡ true → digitsSize (drop i l) ≡ 2 + run (reaches 1) (drop (i + 2) l)
   unfolding digitsSize
-  hex-size e = rw (e, drop-drop 2 i l, run-hex (drop (i + 2) l))
+  hex-digits e = rw (e, drop-drop 2 i l, run-hex (drop (i + 2) l))
 
-  pub hex-small : begins (ascii "0x") (drop i l) ≡ true → digitsSize (drop i l) ≡ 2 + run (reaches 1) (drop (i + 2) l)
-  hex-small e = hex-size (rw e)
-
-  pub hex-capital : begins (ascii "0x") (drop i l) ≡ false → begins (ascii "0X") (drop i l) ≡ true → digitsSize (drop i l) ≡ 2 + run (reaches 1) (drop (i + 2) l)
-  hex-capital e f = hex-size (rw (e, f))
-
-  pub decimal-digits : begins (ascii "0x") (drop i l) ≡ false → begins (ascii "0X") (drop i l) ≡ false → (end : ℕ) → end ≡ i + run (reaches 2) (drop i l)
+  pub decimal-digits : isHex (drop i l) ≡ false → (end : ℕ) → end ≡ i + run (reaches 2) (drop i l)
       → i + digitsSize (drop i l) ≡ end + fractionSize (drop end l)
   unfolding digitsSize decimalSize
-  decimal-digits e f end q =
+  decimal-digits e end q =
       let r : run (reaches 2) (drop i l) ≡ run inDecimal (drop i l) = run-decimal (drop i l) in
       let d : drop (run inDecimal (drop i l)) (drop i l) ≡ drop end l = drop-drop (run inDecimal (drop i l)) i l ∙ ap (λ (n : ℕ). drop n l) (sym (q ∙ ap (λ (n : ℕ). i + n) r)) in
       let n : ℕ = fractionSize (drop end l) in
-      rw (e, f, d) (omega arith)
+      rw (e, d) (omega arith)
 
 -- the suffix, by what the rest begins with
 module _ (s : List ℕ) where
-  pub suffix-fx : begins (ascii "fx") s ≡ true → suffixSize suffixes s ≡ 2
-  unfolding suffixSize suffixes
+  pub suffix-fx : begins (ascii "fx") s ≡ true → fx ≡ suffixOf suffixes s
+  unfolding suffixOf suffixes suffixBytes
   suffix-fx e = rw e
 
   module _ (a : begins (ascii "fx") s ≡ false) where
-    pub suffix-i32 : begins (ascii "i32") s ≡ true → suffixSize suffixes s ≡ 3
-    unfolding suffixSize suffixes
+    pub suffix-i32 : begins (ascii "i32") s ≡ true → i32 ≡ suffixOf suffixes s
+    unfolding suffixOf suffixes suffixBytes
     suffix-i32 e = rw (a, e)
 
     module _ (b : begins (ascii "i32") s ≡ false) where
-      pub suffix-u32 : begins (ascii "u32") s ≡ true → suffixSize suffixes s ≡ 3
-      unfolding suffixSize suffixes
+      pub suffix-u32 : begins (ascii "u32") s ≡ true → u32 ≡ suffixOf suffixes s
+      unfolding suffixOf suffixes suffixBytes
       suffix-u32 e = rw (a, b, e)
 
       module _ (c : begins (ascii "u32") s ≡ false) where
-        pub suffix-f64 : begins (ascii "f64") s ≡ true → suffixSize suffixes s ≡ 3
-        unfolding suffixSize suffixes
+        pub suffix-f64 : begins (ascii "f64") s ≡ true → f64 ≡ suffixOf suffixes s
+        unfolding suffixOf suffixes suffixBytes
         suffix-f64 e = rw (a, b, c, e)
 
-        pub suffix-none : begins (ascii "f64") s ≡ false → suffixSize suffixes s ≡ 0
-        unfolding suffixSize suffixes
+        pub suffix-none : begins (ascii "f64") s ≡ false → noSuffix ≡ suffixOf suffixes s
+        unfolding suffixOf suffixes suffixBytes
         suffix-none e = rw (a, b, c, e)

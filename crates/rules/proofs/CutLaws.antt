@@ -11,15 +11,16 @@ use lib.Dec.{ltb, eqb}
 use lib.ListN.{length, take, drop, length-drop, drop-of-length-le}
 use lib.Seq.{drop-cons, drop-drop}
 use borrow.Author.Tests.{ltb-true, lt-ltb, le-ltb}
-use Rattle.rules.specs.Lists.{if_then_else_, within, ascii, every, elem, same, run, begins, trimEnd}
+use Rattle.rules.specs.Lists.{if_then_else_, within, ascii, every, elem, run, begins, trimEnd}
 use Rattle.rules.specs.Utf8.{scalarSize}
 use Rattle.rules.specs.Kinds.{Str, Indent}
 use Rattle.rules.specs.Tables.{isBlank, isCR, isDigit, isLetter, isHexDigit, isSign, classOf, Spelling, keywords, signs, wordKind, tableRules}
 use Rattle.rules.specs.Failure.{Failure, failure, unterminatedString}
-use Rattle.rules.specs.Cut.{Cut, blank, comment, ends, token, fails, finding, inDecimal, inHex, inWord, inString, fractionSize, decimalSize, digitsSize, suffixes, suffixSize, scanNumber, numberCut, stringEnd, stringCut, closingCut, lowDigitCut, highDigitCut, escapeCut, contentCut, byteCut, wordCut, letterCut, signCut, cutBy, cut}
+use Rattle.rules.specs.Cut.{Cut, blank, comment, ends, token, fails, finding, inDecimal, inHex, inWord, inString, fractionSize, decimalSize, isHex, digitsSize, Suffix, suffixBytes, suffixes, suffixOf, scanNumber, numberCut, stringEnd, stringCut, closingCut, lowDigitCut, highDigitCut, escapeCut, contentCut, byteCut, wordCut, letterCut, signCut, cutBy, cut}
 use Rattle.rules.specs.Line.{tokenAt, movedBy, cuts, stops, withToken, cutStep, cutsFrom}
 use Rattle.rules.proofs.Utf8Laws.{size-le}
-use Rattle.rules.proofs.ListLaws.{if-by, or-by, or-left, and-left, and-true, run-some, run-le, begins-le, trimEnd-le, trimEnd-drop}
+use Rattle.rules.proofs.ListLaws.{if-by, or-by, or-left, and-true, run-some, run-le, begins-le, trimEnd-le, trimEnd-drop}
+use Rattle.rules.proofs.KindLaws.{everyKind, word-by}
 
 -- A cut by the class of its first byte.
 
@@ -65,10 +66,11 @@ fraction-le [] = zero-le
 fraction-le (x ∷ s) =
     if-by (λ n. n ≤ suc (length s)) (begins (ascii ".") (x ∷ s) && ltb 0 (run isDigit s)) (λ _. suc-le-suc (run-le inDecimal s)) (λ _. zero-le)
 
-pub suffix-le : (xs : List (List ℕ)) (s : List ℕ) → suffixSize xs s ≤ length s
-unfolding suffixSize
+suffix-le : (xs : List Suffix) (s : List ℕ) → length (suffixBytes (suffixOf xs s)) ≤ length s
+unfolding suffixOf suffixBytes
 suffix-le [] s = zero-le
-suffix-le (x ∷ xs) s = if-by (λ n. n ≤ length s) (begins x s) (begins-le x s) (λ _. suffix-le xs s)
+suffix-le (x ∷ xs) s =
+    if-by (λ y. length (suffixBytes y) ≤ length s) (begins (suffixBytes x) s) (begins-le (suffixBytes x) s) (λ _. suffix-le xs s)
 
 decimal-le : (s : List ℕ) → decimalSize s ≤ length s
 unfolding decimalSize
@@ -80,31 +82,27 @@ InLine s n = (0 < n) × (n ≤ length s)
 hex-in : (s : List ℕ) → 2 ≤ length s → InLine s (2 + run inHex (drop 2 s))
 hex-in s h = (omega arith, omega (arith, run-le inHex (drop 2 s), length-drop 2 s))
 
+pub hex-room : (s : List ℕ) → isHex s ≡ true → 2 ≤ length s
+unfolding isHex
+hex-room s = or-by (begins (ascii "0x") s) (begins (ascii "0X") s) (begins-le (ascii "0x") s) (begins-le (ascii "0X") s)
+
 pub digits-le : (s : List ℕ) → digitsSize s ≤ length s
 unfolding digitsSize
-digits-le s =
-    if-by (λ n. n ≤ length s) (begins (ascii "0x") s || begins (ascii "0X") s)
-    (or-by (begins (ascii "0x") s) (begins (ascii "0X") s) (λ k. hex-in s (begins-le (ascii "0x") s k) .1) (λ k. hex-in s (begins-le (ascii "0X") s k) .1))
-    (λ _. decimal-le s)
+digits-le s = if-by (λ n. n ≤ length s) (isHex s) (λ k. hex-in s (hex-room s k) .1) (λ _. decimal-le s)
 
 digits-in : (b : ℕ) (s : List ℕ) → isDigit b ≡ true → InLine (b ∷ s) (digitsSize (b ∷ s))
 unfolding digitsSize decimalSize inDecimal
 digits-in b s h =
-    if-by (InLine (b ∷ s)) (begins (ascii "0x") (b ∷ s) || begins (ascii "0X") (b ∷ s))
-    (or-by (begins (ascii "0x") (b ∷ s)) (begins (ascii "0X") (b ∷ s))
-    (λ k. hex-in (b ∷ s) (begins-le (ascii "0x") (b ∷ s) k))
-    (λ k. hex-in (b ∷ s) (begins-le (ascii "0X") (b ∷ s) k)))
+    if-by (InLine (b ∷ s)) (isHex (b ∷ s)) (λ k. hex-in (b ∷ s) (hex-room (b ∷ s) k))
     (λ _. (omega (arith, run-some inDecimal b s (or-left (isDigit b) (eqb b (code "_")) h)), decimal-le (b ∷ s)))
+
+pub number-le : (s : List ℕ) → scanNumber s .end ≤ length s
+unfolding scanNumber
+number-le s = omega (arith, digits-le s, suffix-le suffixes (drop (digitsSize s) s), length-drop (digitsSize s) s)
 
 number-ok : (b : ℕ) (s : List ℕ) → isDigit b ≡ true → CutOk (b ∷ s) (numberCut (b ∷ s))
 unfolding numberCut scanNumber
-number-ok b s h =
-    let d = digits-in b s h in
-    record {
-      kind-lt = omega arith;
-      some-bytes = omega (arith, d .0);
-      in-line = omega (arith, d .1, suffix-le suffixes (drop (digitsSize (b ∷ s)) (b ∷ s)), length-drop (digitsSize (b ∷ s)) (b ∷ s));
-    }
+number-ok b s h = record { kind-lt = omega arith; some-bytes = omega (arith, digits-in b s h .0); in-line = number-le (b ∷ s) }
 
 -- Strings and byte literals.
 
@@ -165,31 +163,32 @@ byte-ok s h = content-ok s (drop 2 (trimEnd isCR s)) (omega (arith, length-drop 
 
 -- Words and signs.
 
--- a spelling has a byte and a kind below Indent
+-- a kind below Indent
+isBelow : ℕ → Bool
+isBelow k = ltb k Indent
+
+keywords-below : everyKind isBelow keywords ≡ true
+unfolding isBelow tableRules
+keywords-below = refl
+
+word-kind : (w : List ℕ) → wordKind keywords w < Indent
+unfolding isBelow
+word-kind w = ltb-true (wordKind keywords w) Indent (word-by isBelow keywords w refl keywords-below)
+
+-- a sign has a byte too
 abbrev spellingOk : Spelling → Bool
 spellingOk k = ltb (k .kind) Indent && ltb 0 (length (k .bytes))
-
-keywords-ok : every spellingOk keywords ≡ true
-unfolding tableRules
-keywords-ok = refl
 
 signs-ok : every spellingOk signs ≡ true
 unfolding tableRules
 signs-ok = refl
-
-word-kind : (ks : List Spelling) (w : List ℕ) → every spellingOk ks ≡ true → wordKind ks w < Indent
-unfolding wordKind every
-word-kind [] w h = omega arith
-word-kind (k ∷ ks) w h =
-    let a = and-true (spellingOk k) (every spellingOk ks) h in
-    if-by (λ n. n < Indent) (same (k .bytes) w) (λ _. ltb-true (k .kind) Indent (and-left (ltb (k .kind) Indent) _ (a .0))) (λ _. word-kind ks w (a .1))
 
 letter-ok : (b : ℕ) (s : List ℕ) → isLetter b ≡ true → CutOk (b ∷ s) (letterCut (b ∷ s))
 unfolding letterCut wordCut inWord
 letter-ok b s h =
     if-by (CutOk (b ∷ s)) (begins (ascii "b'") (b ∷ s)) (λ k. byte-ok (b ∷ s) (begins-le (ascii "b'") (b ∷ s) k))
     (λ _. record {
-      kind-lt = word-kind keywords (take (run inWord (b ∷ s)) (b ∷ s)) keywords-ok;
+      kind-lt = word-kind (take (run inWord (b ∷ s)) (b ∷ s));
       some-bytes = run-some inWord b s (or-left (isLetter b) (inDecimal b) h);
       in-line = run-le inWord (b ∷ s);
     })

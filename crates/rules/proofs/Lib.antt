@@ -4,7 +4,9 @@ pub mod BufferLaws
 pub mod Utf8Laws
 pub mod Utf8Table
 pub mod EncodeLaws
+pub mod KindLaws
 pub mod CutLaws
+pub mod NumberLaws
 pub mod LineLaws
 pub mod ReadingLaws
 pub mod LimitLaws

@@ -18,7 +18,7 @@ pub record Case : Type 0 where
   pub want : List ℕ
 
 infix 40 _gives_
-_gives_ : List ℕ → List ℕ → Case
+abbrev pub _gives_ : List ℕ → List ℕ → Case
 got gives want = record { got = got; want = want }
 
 -- a token record: kind, position, length, line, column
@@ -94,5 +94,5 @@ cases =
     ∷ []
 
 pub cases-hold : map (λ (c : Case). c .got) cases ≡ map (λ (c : Case). c .want) cases
-unfolding cases _gives_ tok tokensBy tokensOf l2 editL2 put indentedLines indentedTokens closings editRules
+unfolding cases tok tokensBy tokensOf l2 editL2 put indentedLines indentedTokens closings editRules
 cases-hold = refl

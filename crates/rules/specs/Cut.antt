@@ -42,27 +42,54 @@ fractionSize s = if begins (ascii ".") s && ltb 0 (run isDigit (drop 1 s)) then 
 unfoldable pub decimalSize : List ℕ → ℕ
 decimalSize s = run inDecimal s + fractionSize (drop (run inDecimal s) s)
 
+-- behind `0x` or `0X`
+unfoldable pub isHex : List ℕ → Bool
+isHex s = begins (ascii "0x") s || begins (ascii "0X") s
+
+unfoldable pub baseOf : List ℕ → ℕ
+baseOf s = if isHex s then 16 else 10
+
+-- the mark of base 16 counts among the digits
 unfoldable pub digitsSize : List ℕ → ℕ
-digitsSize s = if begins (ascii "0x") s || begins (ascii "0X") s then 2 + run inHex (drop 2 s) else decimalSize s
+digitsSize s = if isHex s then 2 + run inHex (drop 2 s) else decimalSize s
 
-unfoldable pub suffixes : List (List ℕ)
-suffixes = ascii "fx" ∷ ascii "i32" ∷ ascii "u32" ∷ ascii "f64" ∷ []
+pub data Suffix : Type 0 where
+  noSuffix : Suffix
+  fx : Suffix
+  i32 : Suffix
+  u32 : Suffix
+  f64 : Suffix
 
--- the length of the first of these that s begins with, otherwise 0
-unfoldable pub suffixSize : List (List ℕ) → List ℕ → ℕ
-suffixSize [] s = 0
-suffixSize (x ∷ xs) s = if begins x s then length x else suffixSize xs s
+unfoldable pub suffixBytes : Suffix → List ℕ
+suffixBytes noSuffix = []
+suffixBytes fx = ascii "fx"
+suffixBytes i32 = ascii "i32"
+suffixBytes u32 = ascii "u32"
+suffixBytes f64 = ascii "f64"
 
--- a number's scan: the bytes of its digits and fraction, and those of its suffix
+unfoldable pub suffixes : List Suffix
+suffixes = fx ∷ i32 ∷ u32 ∷ f64 ∷ []
+
+-- the first of these that s begins with
+unfoldable pub suffixOf : List Suffix → List ℕ → Suffix
+suffixOf [] s = noSuffix
+suffixOf (x ∷ xs) s = if begins (suffixBytes x) s then x else suffixOf xs s
+
+-- a number's scan, in offsets from its start: the base, where digits, `_` and fraction end, the suffix that follows there, and the end
 pub record Number : Type 0 where
+  pub base : ℕ
   pub digits : ℕ
-  pub suffix : ℕ
+  pub suffix : Suffix
+  pub end : ℕ
+
+abbrev pub numberWith : (base digits : ℕ) → Suffix → Number
+numberWith b d x = record { base = b; digits = d; suffix = x; end = d + length (suffixBytes x) }
 
 unfoldable pub scanNumber : List ℕ → Number
-scanNumber s = record { digits = digitsSize s; suffix = suffixSize suffixes (drop (digitsSize s) s) }
+scanNumber s = numberWith (baseOf s) (digitsSize s) (suffixOf suffixes (drop (digitsSize s) s))
 
 unfoldable pub numberCut : List ℕ → Cut
-numberCut s = token Num (scanNumber s .digits + scanNumber s .suffix)
+numberCut s = token Num (scanNumber s .end)
 
 -- Strings: to the next quote; otherwise a failure up to the line's end less its trailing CRs.
 
@@ -151,6 +178,6 @@ cut (b ∷ s) = cutBy (classOf b) (b ∷ s)
 
 -- opens the definitions above, and those of the modules below, where a proof says `unfolding cutRules`
 unfoldable pub cutRules : Unit {0}
-unfolding inDecimal inHex fractionSize decimalSize digitsSize suffixes suffixSize scanNumber numberCut inString stringEnd stringCut
-    closingCut lowDigitCut highDigitCut escapeCut contentCut byteCut inWord wordCut letterCut signCut cutBy cut failureRules tableRules
+unfolding inDecimal inHex fractionSize decimalSize isHex baseOf digitsSize suffixBytes suffixes suffixOf scanNumber numberCut inString
+    stringEnd stringCut closingCut lowDigitCut highDigitCut escapeCut contentCut byteCut inWord wordCut letterCut signCut cutBy cut failureRules tableRules
 cutRules = tt

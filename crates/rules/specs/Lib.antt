@@ -21,7 +21,9 @@ pub mod Walk
 pub mod Report
 pub mod Column
 pub mod ByteValue
+pub mod Numbers
 pub mod Scan
 pub mod Cases
+pub mod Requested
 pub mod Shown
 pub mod Samples

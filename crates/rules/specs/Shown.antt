@@ -2,6 +2,7 @@
 -- Assumes nothing.
 use Prim.Native.Nat.{ℕ, zero, suc, _+_, pred}
 use Prim.Native.String.{String}
+use Prim.Native.Char.{code}
 use mathlib.Core.Path.{_≡_, refl}
 use mathlib.Core.Bool.{Bool, true, false, _&&_, _||_, not, Bool·beq}
 use mathlib.Core.List.{List, [], _∷_, _++_, map}
@@ -12,7 +13,8 @@ use Rattle.rules.specs.Lists.{if_then_else_, within, ascii, any, every, 
 use Rattle.rules.specs.Utf8.{Range, Row, table, following, scalarValue, leadingOnes}
 use Rattle.rules.specs.Kinds.{kindNames, kindNamed, Ident, Num, ByteLit, Str, Implies, LParen, RParen, Indent, Dedent, Newline}
 use Rattle.rules.specs.Tables.{Spelling, keywords, signs, isSign, classOf, wordKind, tableRules}
-use Rattle.rules.specs.Cut.{Cut, blank, comment, ends, token, fails, cut, suffixes, cutRules}
+use Rattle.rules.specs.Cut.{Cut, blank, comment, ends, token, fails, noSuffix, suffixBytes, suffixes, numberWith, scanNumber, cut, cutRules}
+use Rattle.rules.specs.Numbers.{suffixNumber, numberRules}
 use Rattle.rules.specs.TokenText.{indentName, dedentName, newlineName, names, namesSize, partBy, partBytes}
 
 -- n, n + 1 and so on, `count` numbers
@@ -117,10 +119,22 @@ pub signs-alone : every isAlone allBytes ≡ true
 unfolding allBytes from isAlone tableRules
 signs-alone = refl
 
--- the suffixes are the spellings of the number types
-pub suffix-kinds : map (wordKind keywords) suffixes ≡ map kindNamed ("TyFx" ∷ "TyI32" ∷ "TyU32" ∷ "TyF64" ∷ [])
-unfolding suffixes tableRules
+-- Suffixes.
+
+-- they are the spellings of the number types
+pub suffix-kinds : map (λ x. wordKind keywords (suffixBytes x)) suffixes ≡ map kindNamed ("TyFx" ∷ "TyI32" ∷ "TyU32" ∷ "TyF64" ∷ [])
+unfolding suffixes tableRules cutRules
 suffix-kinds = refl
+
+-- a digit and a suffix are scanned as that suffix
+pub suffixes-found : map (λ d. map (λ x. scanNumber (d ∷ suffixBytes x)) suffixes) (from 10 (code "0")) ≡ map (λ d. map (numberWith 10 1) suffixes) (from 10 (code "0"))
+unfolding from cutRules
+suffixes-found = refl
+
+-- their numbers in a reply are their places in the table, from 1
+pub suffixes-numbered : map suffixNumber (noSuffix ∷ suffixes) ≡ from 5 0
+unfolding from numberRules
+suffixes-numbered = refl
 
 -- Classes.
 

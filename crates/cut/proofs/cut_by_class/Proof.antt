@@ -7,8 +7,12 @@ use native.Mathlib.Omega.{arith}
 use native.Mathlib.Nat.{add-zero}
 use lib.ListN.{length, drop}
 use borrow.Author.Tests.{ne-eqb}
-use Rattle.rules.specs.Cut.{finding, cutBy, cut}
-use Rattle.cut.specs.Cuts.{plainCut, cutNamed}
+use Rattle.rules.specs.Kinds.{Num}
+use Rattle.rules.specs.Cut.{token, finding, Number, numberCut, cutBy, cut}
+use Rattle.literals.specs.declared.Cut.{Cut}
+use Rattle.literals.specs.Cuts.{cutOf}
+use Rattle.cut.specs.Cuts.{plainCut, cutNamed, Scanned}
+use Rattle.cut.proofs.Scans.{no-number}
 use Rattle.cut.proofs.Words.{number-plain, string-plain, sign-or-plain, in-class, plain-class}
 use borrow.Author.Needs.{needs}
 use Rattle.cut.proofs.cut_by_class.Statement.{statement}
@@ -36,6 +40,12 @@ module _ (k : tie.After-class-of) where
   plainly : (n : ℕ) → k .class-of .result ≡ n → plainCut (cutBy n rest) ≡ cutBy n rest → cutBy n rest ≡ cutNamed (called .args .named) (cut rest)
   plainly n e p = plain-class (called .args .named) (called .args .line .now) (called .args .at) inside n (sym (k .class-of .ensures) ∙ e) p
 
+  -- a cut by another class than that of digits
+  other-class : (n : ℕ) → k .class-of .result ≡ n → (n ≡ 3 → ⊥) → (x : Cut) → cutOf x ≡ cutNamed (called .args .named) (cut rest)
+      → (cutOf x ≡ cutNamed (called .args .named) (cut rest)) × Scanned x rest
+  other-class n e o x q =
+      (q, no-number (called .args .named) (called .args .line .now) (called .args .at) inside (sym (k .class-of .ensures) ∙ e) o x q)
+
 shared-slice-read-class-of : tie.Need-shared-slice-read-class-of
 shared-slice-read-class-of c = search needs
 
@@ -45,8 +55,8 @@ class-of-requires c κs = search needs
 letter-cut-requires : tie.Need-letter-cut-requires
 letter-cut-requires c κs = called (c .before) .pre
 
-number-cut-requires : tie.Need-number-cut-requires
-number-cut-requires c κs = (called (c .before) .pre .0, omega arith)
+scan-number-requires : tie.Need-scan-number-requires
+scan-number-requires c κs = (called (c .before) .pre .0, omega arith)
 
 string-cut-requires : tie.Need-string-cut-requires
 string-cut-requires c κs = inside (c .before)
@@ -59,27 +69,36 @@ finding-at-requires c κs = search needs
 
 returns : tie.Need-returns
 unfolding cutBy
-returns c = plainly (c .before) 0 (c .match .keys1) refl
+returns c = (plainly (c .before) 0 (c .match .keys1) refl, tt)
 
 returns-2 : tie.Need-returns-2
 unfolding cutBy
-returns-2 c = plainly (c .before) 1 (c .match .keys2) refl
+returns-2 c = (plainly (c .before) 1 (c .match .keys2) refl, tt)
 
 returns-3 : tie.Need-returns-3
 unfolding cutBy
-returns-3 c = c .letter-cut .ensures ∙ of-class (c .before .before) 2 (c .before .match .keys3)
+returns-3 c =
+    let k = c .before .before in
+    other-class k 2 (c .before .match .keys3) (λ e. omega arith) (c .letter-cut .result) (c .letter-cut .ensures ∙ of-class k 2 (c .before .match .keys3))
 
 returns-4 : tie.Need-returns-4
-unfolding cutBy
-returns-4 c = c .number-cut .ensures ∙ plainly (c .before .before) 3 (c .before .match .keys4) (number-plain (rest (c .before .before)))
+unfolding cutBy numberCut
+returns-4 c =
+    let k = c .before .before in
+    let n = c .scan-number in
+    (ap (λ (x : Number). token Num (x .end)) (n .ensures) ∙ plainly k 3 (c .before .match .keys4) (number-plain (rest k)), n .ensures)
 
 returns-5 : tie.Need-returns-5
 unfolding cutBy
-returns-5 c = c .string-cut .ensures ∙ plainly (c .before .before) 4 (c .before .match .keys5) (string-plain (rest (c .before .before)))
+returns-5 c =
+    let k = c .before .before in
+    other-class k 4 (c .before .match .keys5) (λ e. omega arith) (c .string-cut .result) (c .string-cut .ensures ∙ plainly k 4 (c .before .match .keys5) (string-plain (rest k)))
 
 returns-6 : tie.Need-returns-6
 unfolding cutBy
-returns-6 c = c .sign-or-comment .ensures ∙ plainly (c .before .before) 5 (c .before .match .keys6) (sign-or-plain (rest (c .before .before)))
+returns-6 c =
+    let k = c .before .before in
+    other-class k 5 (c .before .match .keys6) (λ e. omega arith) (c .sign-or-comment .result) (c .sign-or-comment .ensures ∙ plainly k 5 (c .before .match .keys6) (sign-or-plain (rest k)))
 
 returns-7 : tie.Need-returns-7
 returns-7 c =
@@ -87,7 +106,8 @@ returns-7 c =
     let a = called k .args in
     let n = c .before .match .rest in
     let o = other-cut (k .class-of .result) (rest k) (n .0 .0 .0 .0 .0 .1) (n .0 .0 .0 .0 .1) (n .0 .0 .0 .1) (n .0 .0 .1) (n .0 .1) (n .1) in
-    c .finding-at .ensures ∙ ap (λ (n : ℕ). finding 1 0 (drop n (a .line .now))) (add-zero (a .at)) ∙ sym o ∙ plainly k (k .class-of .result) refl (ap plainCut o ∙ sym o)
+    other-class k (k .class-of .result) refl (n .0 .0 .1) (c .finding-at .result)
+    (c .finding-at .ensures ∙ ap (λ (n : ℕ). finding 1 0 (drop n (a .line .now))) (add-zero (a .at)) ∙ sym o ∙ plainly k (k .class-of .result) refl (ap plainCut o ∙ sym o))
 
 pub cut-by-class-spec : {M : Type 1} → statement M
 cut-by-class-spec =
@@ -96,7 +116,7 @@ cut-by-class-spec =
     shared-slice-read-class-of
     class-of-requires
     letter-cut-requires
-    number-cut-requires
+    scan-number-requires
     string-cut-requires
     sign-or-comment-requires
     finding-at-requires

@@ -119,10 +119,10 @@ module _ (n : tie.After-scan-number Inv-loop μ-loop) where
   abbrev digit : tie.After-class-of Inv-loop μ-loop
   digit = no-word (n .before .before)
 
-  number : let l = turn digit in TokenAt (place l .write) (line l) (t l .at) 46 (n .scan-number .result .digits + n .scan-number .result .suffix)
+  number : let l = turn digit in TokenAt (place l .write) (line l) (t l .at) 46 (n .scan-number .result .end)
   number =
       let l = turn digit in
-      token-at (place l .write) (line l) (t l .at) 46 (n .scan-number .result .digits + n .scan-number .result .suffix) (more l)
+      token-at (place l .write) (line l) (t l .at) 46 (n .scan-number .result .end) (more l)
       (number-token (place l .write) (line l) (t l .at) (more l) (sym (digit .class-of .ensures) ∙ n .before .if5 .taken) (numberOf (n .scan-number .result)) (n .scan-number .ensures))
 
 -- The sign at hand.
@@ -145,7 +145,7 @@ module _ (n : tie.After-cut-by-class Inv-loop μ-loop) where
   at-cut = turn (no-word (n .before .before .before))
 
   cut-is : (x : Cut) → n .cut-by-class .result ≡ x → cutNamed (place at-cut .write) (cut (drop (t at-cut .at) (line at-cut))) ≡ cutOf x
-  cut-is x e = sym (n .cut-by-class .ensures) ∙ ap cutOf e
+  cut-is x e = sym (n .cut-by-class .ensures .0) ∙ ap cutOf e
 
 -- It is a token.
 module _ (k : tie.After-past-token-arg3 Inv-loop μ-loop) where
@@ -164,8 +164,19 @@ module _ (k : tie.After-past-token-arg3 Inv-loop μ-loop) where
   the-token : TokenAt (place here .write) (line here) (t here .at) kind size
   the-token = token-at (place here .write) (line here) (t here .at) kind size (more here) (cut-is cut-here _ (k .before .before .kind .given .1))
 
+-- It is a number.
+module _ (k : tie.After-past-token-arg4 Inv-loop μ-loop) where
+  abbrev number-here : tie.After-cut-by-class Inv-loop μ-loop
+  number-here = k .before .before .before .before
+
+  abbrev at-number : tie.Then1 Inv-loop μ-loop
+  at-number = at-cut number-here
+
+  the-number : TokenAt (place at-number .write) (line at-number) (t at-number .at) 46 (k .before .before .number .given .0 .0 .end)
+  the-number = token-at (place at-number .write) (line at-number) (t at-number .at) 46 _ (more at-number) (cut-is number-here _ (k .before .before .number .given .1))
+
 -- It is a failure.
-module _ (c : tie.After-known-told2 Inv-loop μ-loop) where
+module _ (c : tie.After-known-told3 Inv-loop μ-loop) where
   abbrev cut-at : tie.After-cut-by-class Inv-loop μ-loop
   cut-at = c .before .before .before
 
@@ -244,17 +255,11 @@ loop-again-2 c =
 scan-number-requires : tie.Need-scan-number-requires Inv-loop μ-loop
 scan-number-requires c κs = let l = turn (no-word (c .before)) in (called l .pre .0, so-far l .inside)
 
-add-past-token : tie.Need-add-past-token Inv-loop μ-loop
-add-past-token c =
-    let n = c .before .before in
-    let l = turn (digit n) in
-    omega (arith, far l .0, number n .in-line)
-
 past-token-requires-2 : tie.Need-past-token-requires-2 Inv-loop μ-loop
-past-token-requires-2 c κs = let n = c .before .before in may-pass (turn (digit n)) (number n)
+past-token-requires-2 c κs = let n = c .before in may-pass (turn (digit n)) (number n)
 
 abbrev number-of : tie.After-slice-known3 Inv-loop μ-loop → tie.After-scan-number Inv-loop μ-loop
-number-of c = c .before .before .before .before .before
+number-of c = c .before .before .before .before
 
 loop-less-3 : tie.Need-loop-less-3 Inv-loop μ-loop
 loop-less-3 c = let n = number-of c in goes-on (turn (digit n)) (number n) _ (c .before .before .past-token2 .ensures .0)
@@ -335,6 +340,24 @@ loop-again-6 c =
     let p = c .before .before .past-token3 .ensures in
     past-token (so-far l) (more l) (the-token (token-of c)) _ (p .0) _ (p .1)
 
+enum-known-number : tie.Need-enum-known-number Inv-loop μ-loop
+enum-known-number c = search needs
+
+past-token-requires-4 : tie.Need-past-token-requires-4 Inv-loop μ-loop
+past-token-requires-4 c κs = may-pass (at-number c) (the-number c)
+
+abbrev cut-number-of : tie.After-slice-known6 Inv-loop μ-loop → tie.After-past-token-arg4 Inv-loop μ-loop
+cut-number-of c = c .before .before .before
+
+loop-less-7 : tie.Need-loop-less-7 Inv-loop μ-loop
+loop-less-7 c = goes-on (at-number (cut-number-of c)) (the-number (cut-number-of c)) _ (c .before .before .past-token4 .ensures .0)
+
+loop-again-7 : tie.Need-loop-again-7 Inv-loop μ-loop
+loop-again-7 c =
+    let l = at-number (cut-number-of c) in
+    let p = c .before .before .past-token4 .ensures in
+    past-token (so-far l) (more l) (the-number (cut-number-of c)) _ (p .0) _ (p .1)
+
 enum-known-f : tie.Need-enum-known-f Inv-loop μ-loop
 enum-known-f c = search needs
 
@@ -384,7 +407,6 @@ cut-line-spec =
     loop-less-2
     loop-again-2
     scan-number-requires
-    add-past-token
     past-token-requires-2
     loop-less-3
     loop-again-3
@@ -404,6 +426,10 @@ cut-line-spec =
     past-token-requires-3
     loop-less-6
     loop-again-6
+    enum-known-number
+    past-token-requires-4
+    loop-less-7
+    loop-again-7
     enum-known-f
     moved-by-requires
     same-length-3

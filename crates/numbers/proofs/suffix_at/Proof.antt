@@ -1,11 +1,11 @@
--- `numbers::suffix_size` meets its contract.
+-- `numbers::suffix_at` meets its contract.
 -- Assumes nothing.
 use mathlib.Core.Path.{sym, _∙_}
 use borrow.Author.Needs.{needs}
 use lib.ListN.{drop}
 use Rattle.numbers.proofs.Numbers.{suffix-fx, suffix-i32, suffix-u32, suffix-f64, suffix-none}
-use Rattle.numbers.proofs.suffix_size.Statement.{statement}
-use Rattle.numbers.proofs.suffix_size.Tie as tie
+use Rattle.numbers.proofs.suffix_at.Statement.{statement}
+use Rattle.numbers.proofs.suffix_at.Tie as tie
 
 slice-aggregate-begins-at : tie.Need-slice-aggregate-begins-at
 slice-aggregate-begins-at c = search needs
@@ -16,7 +16,7 @@ begins-at-requires c κs = search needs
 returns : tie.Need-returns
 returns c =
     let a = c .before .before .before .before .args in
-    sym (suffix-fx (drop (a .at) (a .line .now)) (sym (c .before .begins-at .ensures) ∙ c .if1 .taken))
+    suffix-fx (drop (a .at) (a .line .now)) (sym (c .before .begins-at .ensures) ∙ c .if1 .taken)
 
 slice-aggregate-begins-at-2 : tie.Need-slice-aggregate-begins-at-2
 slice-aggregate-begins-at-2 c = search needs
@@ -28,7 +28,7 @@ returns-2 : tie.Need-returns-2
 returns-2 c =
     let x = c .before .before .before in
     let a = x .before .before .before .before .args in
-    sym (suffix-i32 (drop (a .at) (a .line .now)) (sym (x .before .begins-at .ensures) ∙ x .if1 .left) (sym (c .before .begins-at2 .ensures) ∙ c .if2 .taken))
+    suffix-i32 (drop (a .at) (a .line .now)) (sym (x .before .begins-at .ensures) ∙ x .if1 .left) (sym (c .before .begins-at2 .ensures) ∙ c .if2 .taken)
 
 slice-aggregate-begins-at-3 : tie.Need-slice-aggregate-begins-at-3
 slice-aggregate-begins-at-3 c = search needs
@@ -41,7 +41,7 @@ returns-3 c =
     let y = c .before .before .before in
     let x = y .before .before .before in
     let a = x .before .before .before .before .args in
-    sym (suffix-u32 (drop (a .at) (a .line .now)) (sym (x .before .begins-at .ensures) ∙ x .if1 .left) (sym (y .before .begins-at2 .ensures) ∙ y .if2 .left) (sym (c .before .begins-at3 .ensures) ∙ c .if3 .taken))
+    suffix-u32 (drop (a .at) (a .line .now)) (sym (x .before .begins-at .ensures) ∙ x .if1 .left) (sym (y .before .begins-at2 .ensures) ∙ y .if2 .left) (sym (c .before .begins-at3 .ensures) ∙ c .if3 .taken)
 
 slice-aggregate-begins-at-4 : tie.Need-slice-aggregate-begins-at-4
 slice-aggregate-begins-at-4 c = search needs
@@ -55,7 +55,7 @@ returns-4 c =
     let y = z .before .before .before in
     let x = y .before .before .before in
     let a = x .before .before .before .before .args in
-    sym (suffix-f64 (drop (a .at) (a .line .now)) (sym (x .before .begins-at .ensures) ∙ x .if1 .left) (sym (y .before .begins-at2 .ensures) ∙ y .if2 .left) (sym (z .before .begins-at3 .ensures) ∙ z .if3 .left) (sym (c .before .begins-at4 .ensures) ∙ c .if4 .taken))
+    suffix-f64 (drop (a .at) (a .line .now)) (sym (x .before .begins-at .ensures) ∙ x .if1 .left) (sym (y .before .begins-at2 .ensures) ∙ y .if2 .left) (sym (z .before .begins-at3 .ensures) ∙ z .if3 .left) (sym (c .before .begins-at4 .ensures) ∙ c .if4 .taken)
 
 returns-5 : tie.Need-returns-5
 returns-5 c =
@@ -63,10 +63,10 @@ returns-5 c =
     let y = z .before .before .before in
     let x = y .before .before .before in
     let a = x .before .before .before .before .args in
-    sym (suffix-none (drop (a .at) (a .line .now)) (sym (x .before .begins-at .ensures) ∙ x .if1 .left) (sym (y .before .begins-at2 .ensures) ∙ y .if2 .left) (sym (z .before .begins-at3 .ensures) ∙ z .if3 .left) (sym (c .before .begins-at4 .ensures) ∙ c .if4 .left))
+    suffix-none (drop (a .at) (a .line .now)) (sym (x .before .begins-at .ensures) ∙ x .if1 .left) (sym (y .before .begins-at2 .ensures) ∙ y .if2 .left) (sym (z .before .begins-at3 .ensures) ∙ z .if3 .left) (sym (c .before .begins-at4 .ensures) ∙ c .if4 .left)
 
-pub suffix-size-spec : {M : Type 1} → statement M
-suffix-size-spec =
+pub suffix-at-spec : {M : Type 1} → statement M
+suffix-at-spec =
     tie.close
     (tie.spec
     slice-aggregate-begins-at
