@@ -5,6 +5,7 @@ ghost use lib.Seq.{sets};
 ghost use Rattle.rules.specs.Read.{readInto};
 ghost use Rattle.rules.specs.Column.{columnReply};
 ghost use Rattle.rules.specs.ByteValue.{valueReply};
+ghost use Rattle.rules.specs.Numbers.{partsReply};
 ghost use Rattle.rules.specs.Report.{reportInto};
 ghost use Rattle.rules.specs.TokenText.{tokenTextReply};
 ghost use Rattle.rules.specs.Walk.{walkReply};
@@ -48,6 +49,15 @@ pub extern "C" fn lexpage_byte_value(text: &[u8], reply: &mut [u64; 16]) -> u64
     ensures { λ _. ⌜ now (reply .exit) ≡ sets (now (reply .entry)) 0 (valueReply (now (text .entry))) ⌝ }
 {
     text_replies::put_value(reply, byte_value::ascii_byte_literal_value(text))
+}
+
+// The number at the front of a text.
+#[no_mangle]
+pub extern "C" fn lexpage_number_parts(text: &[u8], reply: &mut [u64; 16]) -> u64
+    ensures { λ r. ⌜ r ≡ length (partsReply (now (text .entry))) ⌝ }
+    ensures { λ _. ⌜ now (reply .exit) ≡ sets (now (reply .entry)) 0 (partsReply (now (text .entry))) ⌝ }
+{
+    number_replies::put_parts(reply, number_parts::number_parts(text))
 }
 
 // The message of a text's failure.

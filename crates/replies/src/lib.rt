@@ -61,6 +61,20 @@ pub fn put_five(reply: &mut [u64; 16], a: u64, b: u64, c: u64, d: u64, e: u64) -
     5
 }
 
+// Six words.
+pub fn put_six(reply: &mut [u64; 16], a: u64, b: u64, c: u64, d: u64, e: u64, f: u64) -> u64
+    ensures { λ r. ⌜ r ≡ 6 ⌝ }
+    ensures { λ _. ⌜ now (reply .exit) ≡ sets (now (reply .entry)) 0 (a ∷ b ∷ c ∷ d ∷ e ∷ f ∷ []) ⌝ }
+{
+    reply[0] = a;
+    reply[1] = b;
+    reply[2] = c;
+    reply[3] = d;
+    reply[4] = e;
+    reply[5] = f;
+    6
+}
+
 // Refusal 3 with a failure's record.
 fn put_failure(reply: &mut [u64; 16], f: refusals::FailureRecord) -> u64
     ensures { λ r. ⌜ r ≡ 9 ⌝ }
