@@ -3,6 +3,7 @@
 extern crate alloc;
 
 mod by_hand;
+mod calls;
 mod clock;
 mod edits;
 mod floor;
@@ -53,4 +54,6 @@ fn main() {
     floor::table(&SIZES, turns);
     println!("\n### Worst texts\n");
     worst::table(&SIZES, turns / 10 + 1);
+    println!("\n### Calls on a text\n");
+    calls::table(&SIZES, turns);
 }

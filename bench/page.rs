@@ -54,6 +54,13 @@ pub fn byte_value(text: &[u8], reply: &mut [u64; 16]) {
     }
 }
 
+/// The parts of the number at the front of a text.
+pub fn number_parts(text: &[u8], reply: &mut [u64; 16]) {
+    unsafe {
+        lexpage::lexpage_number_parts(text.as_ptr(), text.len(), reply.as_mut_ptr());
+    }
+}
+
 impl Page {
     /// The text, read, with room for some more of everything. A text that fails has room for what stands before the failure.
     pub fn new(text: &[u8]) -> Page {

@@ -90,6 +90,9 @@ struct Copies {
     tokens: Vec<u32>,
 }
 
+/// A name with its time, and the plain copy that it is held against.
+pub type Row = (&'static str, f64, f64);
+
 /// The medians, in the order of `Pages::turn`.
 struct Times(Vec<f64>);
 
@@ -104,8 +107,8 @@ impl Times {
         self.0[27 + which]
     }
 
-    /// Each part with its time, and the plain copy that it is held against.
-    fn parts(&self) -> Vec<(&'static str, f64, f64)> {
+    /// Each part.
+    fn parts(&self) -> Vec<Row> {
         let t = &self.0;
         let [text, lines, tokens] = [0, 1, 2].map(|which| self.copied(which));
         let more = |page, edit| self.accepted(page, edit) - self.accepted(3, edit);
@@ -134,7 +137,7 @@ impl Times {
 }
 
 /// The parts at one size.
-fn measured(size: usize, turns: usize) -> Vec<(&'static str, f64, f64)> {
+fn measured(size: usize, turns: usize) -> Vec<Row> {
     let text = [FIRST.as_bytes(), &texts::script(size - 256)].concat();
     let mut pages = Pages::new(&text);
     let (lines, tokens) = pages.whole.records();
@@ -146,16 +149,21 @@ fn measured(size: usize, turns: usize) -> Vec<(&'static str, f64, f64)> {
     Times(medians(turns, || pages.turn(&mut copies))).parts()
 }
 
-/// Every part: microseconds, and how many plain copies of the same bytes that is, for each size.
+/// Every part, for each size.
 pub fn table(sizes: &[usize], turns: usize) {
     let columns: Vec<_> = sizes.iter().map(|size| measured(*size, turns)).collect();
+    print("part", sizes, &columns);
+}
+
+/// A table of rows, with a column for each size: microseconds, and how many plain copies of the same bytes that is.
+pub fn print(what: &str, sizes: &[usize], columns: &[Vec<Row>]) {
     let heads = sizes
         .iter()
         .map(|size| format!(" {} KiB: µs | copies |", size >> 10));
-    println!("| part |{}", heads.collect::<String>());
+    println!("| {what} |{}", heads.collect::<String>());
     println!("|---|{}", "---|---|".repeat(sizes.len()));
     for row in 0..columns[0].len() {
-        let cell = |column: &Vec<(&str, f64, f64)>| {
+        let cell = |column: &Vec<Row>| {
             let (_, time, copy) = column[row];
             format!(" {:.1} | {:.2} |", time * 1e3, time / copy)
         };

@@ -123,6 +123,13 @@ uint64_t lexpage_panel_column(const uint8_t *text, size_t text_len, size_t offse
 /* Byte-literal value: 0, 1, value; or 0, 0 for none. Refuses 1, 2. */
 uint64_t lexpage_byte_value(const uint8_t *text, size_t text_len, uint64_t *reply);
 
+/* The number at the front of a text: 0, 1, end, base (10 or 16), digits' end, suffix (0 none,
+ * 1 fx, 2 i32, 3 u32, 4 f64); or 0, 0 where the text does not begin with a digit. Both ends
+ * are in bytes from the text's start: `0x`, digits, `_` and fraction stand before the digits'
+ * end, the suffix from there to the end. Without a suffix the two are equal, as for `0x1f64`,
+ * whose hex digits run to its end. What follows the number changes no value. Refuses 1, 2. */
+uint64_t lexpage_number_parts(const uint8_t *text, size_t text_len, uint64_t *reply);
+
 #ifdef __cplusplus
 }
 #endif

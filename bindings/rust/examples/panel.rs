@@ -1,8 +1,9 @@
 //! panel FILE: shows a script and applies edits to it, one on each line of standard input.
 //!
 //! The file itself is not changed. Exit status: 0, 1 (the file cannot be read or is refused), 2 (wrong arguments).
-use lexpage::{report, Group, Header, Page, Refusal};
+use lexpage::{number_parts, report, Group, Header, Line, Page, Refusal, Token, TokenKind};
 use std::io::{self, BufRead, IsTerminal, Write};
+use std::ops::Range;
 use std::process::ExitCode;
 use std::{env, fs};
 
@@ -13,6 +14,7 @@ const HELP: &str = r"  a b TEXT   put TEXT in the place of the bytes a to b (b n
              \n is a line end, \t a tab, \r a CR, \\ a backslash
   a b        take these bytes out
   show       show the whole script
+  parts N    show line N in parts: bytes a to b, what has their colour, text
   help       show this
   quit       leave";
 
@@ -20,18 +22,23 @@ const HELP: &str = r"  a b TEXT   put TEXT in the place of the bytes a to b (b n
 enum Command {
     Edit { a: usize, b: usize, bytes: Vec<u8> },
     Show,
+    Parts { line: usize },
     Help,
     Quit,
     Nothing,
 }
 
 fn command(input: &[u8]) -> Result<Command, String> {
-    match input.trim_ascii() {
+    let words = input.trim_ascii();
+    match words {
         b"" => return Ok(Command::Nothing),
         b"show" => return Ok(Command::Show),
         b"help" | b"?" => return Ok(Command::Help),
         b"quit" | b"exit" => return Ok(Command::Quit),
         _ => {}
+    }
+    if let Some(rest) = words.strip_prefix(b"parts") {
+        return line_number(rest).map(|line| Command::Parts { line });
     }
     let mut fields = input.trim_ascii_start().splitn(3, |byte| *byte == b' ');
     let (a, b) = (offset(fields.next())?, offset(fields.next())?);
@@ -40,6 +47,11 @@ fn command(input: &[u8]) -> Result<Command, String> {
         b,
         bytes: unescaped(fields.next().unwrap_or(b""))?,
     })
+}
+
+fn line_number(field: &[u8]) -> Result<usize, String> {
+    let number = String::from_utf8_lossy(field.trim_ascii()).parse();
+    number.map_err(|_| "after `parts` comes the number of a line".to_string())
 }
 
 fn offset(field: Option<&[u8]>) -> Result<usize, String> {
@@ -84,16 +96,47 @@ fn shown(text: &str, tab: &str) -> String {
     row
 }
 
-/// The terminal's code for a group's colour, for a comment where there is none.
-fn colour(group: Option<Group>) -> &'static str {
+/// What has a colour, and the terminal's code for it.
+type Colour = (&'static str, &'static str);
+
+const COMMENTS: Colour = ("comments", "90");
+const TYPES: Colour = ("types", "36");
+
+fn colour(group: Group) -> Colour {
     match group {
-        None => "90",
-        Some(Group::Keyword) => "1;34",
-        Some(Group::Type) => "36",
-        Some(Group::Literal) => "32",
-        Some(Group::Sign) => "33",
-        Some(Group::Name | Group::Layout) => "",
+        Group::Keyword => ("keywords", "1;34"),
+        Group::Type => TYPES,
+        Group::Literal => ("literals", "32"),
+        Group::Sign => ("signs", "33"),
+        Group::Name | Group::Layout => ("names", ""),
     }
+}
+
+/// Bytes of a line and their colour. Blanks may stand before them, and there may be none.
+type Part = (Range<usize>, Colour);
+
+/// A token's two parts: a number's digits and its suffix; of any other token the whole and nothing.
+fn token_parts(page: &Page, token: &Token) -> [Part; 2] {
+    let Range { start, end } = token.range();
+    let number = match token.kind {
+        TokenKind::Num => number_parts(&page.text()[start..end]).ok().flatten(),
+        _ => None,
+    };
+    let suffix = number.map_or(end, |number| start + number.digits);
+    [(start..suffix, colour(token.kind.group())), (suffix..end, TYPES)]
+}
+
+/// The parts of a line, up to the next.
+fn line_parts(page: &Page, line: &Line, next: &Line) -> Vec<Part> {
+    let count = next.first_token - line.first_token;
+    let mut at = line.start;
+    let mut parts = Vec::new();
+    for token in page.tokens().skip(line.first_token).take(count) {
+        parts.push((at..token.position.max(at), COMMENTS));
+        parts.extend(token_parts(page, &token));
+        at = at.max(token.range().end);
+    }
+    parts
 }
 
 /// The screen: where rows go, and whether they have colours.
@@ -107,30 +150,42 @@ impl Screen {
         writeln!(self.out, "{row}")
     }
 
-    fn paint(&self, bytes: &[u8], group: Option<Group>) -> String {
+    fn paint(&self, bytes: &[u8], (_, code): Colour) -> String {
         let text = shown(&String::from_utf8_lossy(bytes), "    ");
-        match colour(group) {
-            code if self.coloured && !code.is_empty() && !text.trim().is_empty() => {
-                format!("\x1b[{code}m{text}\x1b[0m")
-            }
-            _ => text,
+        if self.coloured && !code.is_empty() && !text.trim().is_empty() {
+            return format!("\x1b[{code}m{text}\x1b[0m");
         }
+        text
     }
 
-    /// The lines from `first` on, `count` of them: first byte, line, open levels, tokens.
+    /// The lines from `first` on, `count` of them: first byte, line, open levels, text.
     fn lines(&mut self, page: &Page, first: usize, count: usize) -> io::Result<()> {
         let records: Vec<_> = page.lines().chain([page.end()]).collect();
-        let mut tokens = page.tokens().skip(records[first].first_token);
         for i in first..first + count {
             let (line, next) = (&records[i], &records[i + 1]);
             let mut row = format!("{:>6} {:>4} {:>5}  ", line.start, i + 1, next.levels);
-            let mut at = line.start;
-            for token in tokens.by_ref().take(next.first_token - line.first_token) {
-                row += &self.paint(&page.text()[at..token.position.max(at)], None);
-                row += &self.paint(&page.text()[token.range()], Some(token.kind.group()));
-                at = at.max(token.range().end);
+            for (range, colour) in line_parts(page, line, next) {
+                row += &self.paint(&page.text()[range], colour);
             }
             self.row(row.trim_end())?;
+        }
+        Ok(())
+    }
+
+    /// A line in parts, without its blanks: bytes a to b, what has their colour, text.
+    fn parts(&mut self, page: &Page, line: usize) -> io::Result<()> {
+        let records: Vec<_> = page.lines().chain([page.end()]).collect();
+        if line == 0 || line >= records.len() {
+            let lines = page.header().lines;
+            return self.row(&format!("there is no line {line}: the script has {lines}"));
+        }
+        self.row("     a      b  colour of  text")?;
+        for (range, colour) in line_parts(page, &records[line - 1], &records[line]) {
+            let bytes = page.text()[range.clone()].trim_ascii_start();
+            if !bytes.is_empty() {
+                let (a, b, text) = (range.end - bytes.len(), range.end, self.paint(bytes, colour));
+                self.row(format!("{a:>6} {b:>6}  {:<9}  {text}", colour.0).trim_end())?;
+            }
         }
         Ok(())
     }
@@ -196,6 +251,7 @@ fn session(page: &mut Page, screen: &mut Screen) -> io::Result<()> {
         match command(line) {
             Ok(Command::Edit { a, b, bytes }) => screen.edit(page, (a, b), &bytes)?,
             Ok(Command::Show) => screen.page(page)?,
+            Ok(Command::Parts { line }) => screen.parts(page, line)?,
             Ok(Command::Help) => screen.row(HELP)?,
             Ok(Command::Quit) => return Ok(()),
             Ok(Command::Nothing) => {}

@@ -60,4 +60,5 @@ extern "C" {
     pub fn lexpage_report(text: *const u8, text_len: usize, out: *mut u8, out_len: usize, reply: *mut u64) -> u64;
     pub fn lexpage_panel_column(text: *const u8, text_len: usize, offset: usize, reply: *mut u64) -> u64;
     pub fn lexpage_byte_value(text: *const u8, text_len: usize, reply: *mut u64) -> u64;
+    pub fn lexpage_number_parts(text: *const u8, text_len: usize, reply: *mut u64) -> u64;
 }

@@ -105,3 +105,8 @@ pub fn byte_value(text: &[u8]) -> Reply {
     // SAFETY: one slice that is only read and the reply's array, as the module says.
     Reply::of(|reply| unsafe { lexpage_byte_value(text.as_ptr(), text.len(), reply) })
 }
+
+pub fn number_parts(text: &[u8]) -> Reply {
+    // SAFETY: one slice that is only read and the reply's array, as the module says.
+    Reply::of(|reply| unsafe { lexpage_number_parts(text.as_ptr(), text.len(), reply) })
+}

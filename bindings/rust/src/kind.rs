@@ -96,7 +96,7 @@ kinds! {
     QuadT Literal "`T`",
     QuadS Literal "`S`",
     Ident Name "A word that is no keyword.",
-    Num Literal "A number, as `0x1F`, `1_000` or `2.5fx`.",
+    Num Literal "A number, as `0x1F`, `1_000` or `2.5fx`; [`number_parts`](crate::number_parts) tells its suffix apart.",
     ByteLit Literal "A byte literal, as `b'\\n'`.",
     String Literal "A string, quotes included.",
     AndAnd Sign "`&&`",

@@ -27,6 +27,7 @@
 //! off in the middle is to be read again from its text ([`read`]). That text may then be a mixture of the old and the new
 //! one, and [`check`] does not tell: it says whether header and records are those of the text that is there.
 use crate::ffi::{self, Reply};
+use crate::number::Number;
 use crate::record::{Edited, Header, Line, Token};
 use crate::refusal::Refusal;
 use crate::{LINE_WORDS, TOKEN_WORDS};
@@ -190,5 +191,23 @@ pub fn panel_column(text: &[u8], offset: usize) -> Result<usize, Refusal> {
 pub fn byte_value(text: &[u8]) -> Result<Option<u8>, Refusal> {
     accepted(ffi::byte_value(text), |values| {
         (values[0] == 1).then(|| values[1] as u8)
+    })
+}
+
+/// The number at the front of a text, or none where the text does not begin with a digit. Refuses 1, 2.
+///
+/// What follows the number does not matter, but the whole text is looked at for UTF-8: of a page, lend the token's text.
+///
+/// ```
+/// use lexpage::{number_parts, Number, Suffix};
+/// let number = number_parts(b"2.5fx")?.unwrap();
+/// assert_eq!(number, Number { end: 5, base: 10, digits: 3, suffix: Some(Suffix::Fx) });
+/// assert_eq!(number_parts(b"0x1f64")?.unwrap().suffix, None); // hex digits to its end
+/// assert_eq!(number_parts(b"-1")?, None);
+/// # Ok::<(), lexpage::Refusal>(())
+/// ```
+pub fn number_parts(text: &[u8]) -> Result<Option<Number>, Refusal> {
+    accepted(ffi::number_parts(text), |values| {
+        (values[0] == 1).then(|| Number::from_words(&values[1..]))
     })
 }

@@ -45,13 +45,15 @@ mod declarations;
 mod ffi;
 mod kind;
 pub mod lent;
+mod number;
 #[cfg(feature = "alloc")]
 mod page;
 mod record;
 mod refusal;
 
 pub use kind::{Group, TokenKind};
-pub use lent::{byte_value, panel_column};
+pub use lent::{byte_value, number_parts, panel_column};
+pub use number::{Number, Suffix};
 #[cfg(feature = "alloc")]
 pub use page::{report, Page, Tokens};
 pub use record::{Edited, Header, Line, Token};

@@ -63,7 +63,7 @@ fn declarations_agree() {
     let rust = declared("bindings/rust/src/declarations.rs", "fn lexpage_", |parameter| {
         vec![parameter.to_string()]
     });
-    assert_eq!(rust.len(), 9);
+    assert_eq!(rust.len(), 10);
     assert_eq!(declared("include/lexpage.h", "uint64_t lexpage_", from_c), rust);
     assert_eq!(
         declared("crates/lexpage/src/lib.rt", "extern \"C\" fn lexpage_", from_rattle),

@@ -1,6 +1,7 @@
-//! Texts read by themselves: document 01's cases, the tables of kinds, failures and their messages, columns and values.
+//! Texts read by themselves: document 01's cases, the tables of kinds, failures and their messages, columns, values, parts of numbers.
 use lexpage::{
-    byte_value, panel_column, report, Code, Detail, Failure, Group, Page, Refusal, Token, TokenKind, MAX_BYTES,
+    byte_value, number_parts, panel_column, report, Code, Detail, Failure, Group, Number, Page, Refusal, Suffix, Token,
+    TokenKind, MAX_BYTES,
 };
 use std::fs;
 
@@ -285,6 +286,71 @@ fn values_of_byte_literals() {
     assert_eq!(byte_value(b"b'\xE9'"), Err(Refusal::Malformed { prefix: 2 }));
 }
 
+/// Numbers with their base, digits' end, suffix and end.
+const NUMBERS: [(&str, u32, usize, Option<Suffix>, usize); 19] = [
+    ("0xi32", 16, 2, Some(Suffix::I32), 5),
+    ("0x_", 16, 3, None, 3),
+    ("0x_i32", 16, 3, Some(Suffix::I32), 6),
+    ("0x1f64", 16, 6, None, 6),
+    ("0x1fx", 16, 4, None, 4),
+    ("0X1Fu32", 16, 4, Some(Suffix::U32), 7),
+    ("0x1.5", 16, 3, None, 3),
+    ("1_", 10, 2, None, 2),
+    ("1_i32", 10, 2, Some(Suffix::I32), 5),
+    ("1.5f64", 10, 3, Some(Suffix::F64), 6),
+    ("1.5_fx", 10, 4, Some(Suffix::Fx), 6),
+    ("1._5", 10, 1, None, 1),
+    ("1f642", 10, 1, Some(Suffix::F64), 4),
+    ("1i32u32", 10, 1, Some(Suffix::I32), 4),
+    ("1Fx", 10, 1, None, 1),
+    ("00x1", 10, 2, None, 2),
+    ("1..2", 10, 1, None, 1),
+    ("1 ", 10, 1, None, 1),
+    ("1\n", 10, 1, None, 1),
+];
+
+#[test]
+fn parts_of_numbers() {
+    for (text, base, digits, suffix, end) in NUMBERS {
+        let number = Number {
+            end,
+            base,
+            digits,
+            suffix,
+        };
+        assert_eq!(number_parts(text.as_bytes()), Ok(Some(number)), "{text:?}");
+        assert_eq!(tokens(text)[0], ("Num", 0, end, 1, 1), "{text:?}");
+    }
+    for text in ["", "x", " 1", "-1", ".5", "_1", "٣"] {
+        assert_eq!(number_parts(text.as_bytes()), Ok(None), "{text:?}");
+    }
+    assert_eq!(number_parts(b"1\xFF"), Err(Refusal::Malformed { prefix: 1 }));
+    assert_eq!(number_parts(b"\xFF"), Err(Refusal::Malformed { prefix: 0 }));
+}
+
+#[test]
+fn a_number_may_fill_the_text() {
+    let digits = Number {
+        end: MAX_BYTES,
+        base: 10,
+        digits: MAX_BYTES,
+        suffix: None,
+    };
+    let mut text = vec![b'7'; MAX_BYTES];
+    assert_eq!(number_parts(&text), Ok(Some(digits)));
+    text[MAX_BYTES - 3..].copy_from_slice(b"u32");
+    let suffixed = Number {
+        digits: MAX_BYTES - 3,
+        suffix: Some(Suffix::U32),
+        ..digits
+    };
+    assert_eq!(number_parts(&text), Ok(Some(suffixed)));
+    text[1] = 0xFF;
+    assert_eq!(number_parts(&text), Err(Refusal::Malformed { prefix: 1 }));
+    text.push(0xFF);
+    assert_eq!(number_parts(&text), Err(Refusal::TooLong { length: MAX_BYTES + 1 }));
+}
+
 #[test]
 fn limits_of_a_text() {
     let mut text = vec![b'#'; MAX_BYTES];
@@ -295,7 +361,8 @@ fn limits_of_a_text() {
     assert_eq!(refusal(&text), long);
     assert_eq!(report(&text).unwrap_err(), long);
     assert_eq!(panel_column(&text, 0), Err(long.clone()));
-    assert_eq!(byte_value(&text), Err(long));
+    assert_eq!(byte_value(&text), Err(long.clone()));
+    assert_eq!(number_parts(&text), Err(long));
 }
 
 #[test]

@@ -1,7 +1,7 @@
 //! No contract says how long a call takes. Here each call is timed on the texts that cost it most, against plain ones.
 mod worst;
 
-use lexpage::{lent, Header, Refusal};
+use lexpage::{lent, number_parts, Header, Refusal};
 use std::time::{Duration, Instant};
 
 /// The bytes of each text: a call on the plain one takes about a millisecond or more.
@@ -84,20 +84,45 @@ impl<'a> Lent<'a> {
     }
 }
 
-#[test]
-fn no_text_takes_much_longer_than_a_plain_one() {
+/// One of three runs of a call takes no longer than is due.
+fn hold(what: &str, due: Duration, mut run: impl FnMut() -> Duration) {
+    let runs = (0..3).map(|_| run());
+    let slow: Vec<Duration> = runs.take_while(|time| *time > due).collect();
+    assert!(slow.len() < 3, "{what} took {slow:?}, due is {due:?}");
+}
+
+/// So many times what the call takes on a plain text.
+fn due(plain: &mut Lent, call: &str) -> Duration {
+    TIMES * (0..5).map(|_| plain.time(call)).min().unwrap()
+}
+
+fn worst_texts() {
     for text in worst::texts(SIZE) {
         let mut worst = Lent::new(&text.page, (text.at, text.out, text.w));
         let mut plain = Lent::new(&text.plain, (0, 0, b"(\n"));
         for call in CALLS {
-            let due = TIMES * (0..5).map(|_| plain.time(call)).min().unwrap();
-            let runs = (0..3).map(|_| worst.time(call));
-            let slow: Vec<Duration> = runs.take_while(|time| *time > due).collect();
-            let name = text.name;
-            assert!(
-                slow.len() < 3,
-                "{name}: {call} took {slow:?}, {TIMES} times a plain text's time is {due:?}"
-            );
+            let what = format!("{}: {call}", text.name);
+            hold(&what, due(&mut plain, call), || worst.time(call));
         }
     }
+}
+
+/// The parts of a number that fills its text, and of one before letters of two bytes, against a reading of a plain text.
+fn long_numbers() {
+    let mut plain = Lent::new(&b"x := 4;\n".repeat(SIZE / 8), (0, 0, b"(\n"));
+    for (front, rest) in [("7", "7"), ("7", "_"), ("7.", "7"), ("0x", "f"), ("7 ", "é")] {
+        let text = front.to_string() + &rest.repeat(SIZE / rest.len());
+        hold(&format!("{front}{rest}: parts"), due(&mut plain, "read"), || {
+            let begun = Instant::now();
+            assert!(number_parts(text.as_bytes()).unwrap().is_some());
+            begun.elapsed()
+        });
+    }
+}
+
+/// One test, so that no two run at the same time.
+#[test]
+fn no_text_takes_much_longer_than_a_plain_one() {
+    worst_texts();
+    long_numbers();
 }
