@@ -3,6 +3,7 @@
 use crate::lent::{Lent, BYTE, WORD};
 use crate::library::{LentPage, Library};
 use crate::pages::{page_holds, same, Held};
+use crate::texts::number_parts_hold;
 use oracle::generate::edits::{each_within, Edit, History};
 use oracle::generate::free::FreeEdit;
 use oracle::page::{byte_value, panel_column, read_into, report, Lengths, Page};
@@ -219,6 +220,7 @@ pub fn long_texts_hold(library: &Library) -> Held {
             is,
             byte_value(&text),
         )?;
+        number_parts_hold(library, &text)?;
     }
     Ok(())
 }

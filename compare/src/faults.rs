@@ -33,8 +33,13 @@ fn word(done: &mut Done, test: bool, at: usize, change: u64) {
     }
 }
 
+/// The parts of a number were asked for, and the text begins with these bytes.
+fn number(done: &Done, front: &[u8]) -> bool {
+    done.call == Call::NumberParts && done.text.starts_with(front)
+}
+
 /// Faults that a text by itself shows.
-const OF_TEXTS: [Entry; 12] = [
+const OF_TEXTS: [Entry; 18] = [
     Entry {
         name: "read: one token more, where the text holds a tab",
         list: "texts",
@@ -149,6 +154,65 @@ const OF_TEXTS: [Entry; 12] = [
         fault: |done| {
             let end = done.call == Call::WalkStep && done.reply[1] == 0;
             word(done, end, 2, 1);
+        },
+    },
+    Entry {
+        name: "number parts: base 10 behind 0X",
+        list: "numbers",
+        smallest: &["3058 "],
+        fault: |done| {
+            if accepted(done, Call::NumberParts) && number(done, b"0X") {
+                done.reply[3] = 10;
+            }
+        },
+    },
+    Entry {
+        name: "number parts: hex digits f64 are told as a suffix",
+        list: "numbers",
+        smallest: &["3078663634 "],
+        fault: |done| {
+            if accepted(done, Call::NumberParts) && number(done, b"0xf64") && done.reply[2] == 5 {
+                done.reply[4..].copy_from_slice(&[2, 4]);
+            }
+        },
+    },
+    Entry {
+        name: "number parts: the digits end before the _ that a suffix follows",
+        list: "numbers",
+        smallest: &["315f6678 "],
+        fault: |done| {
+            let told = accepted(done, Call::NumberParts) && number(done, b"1_fx");
+            word(done, told, 4, u64::MAX);
+        },
+    },
+    Entry {
+        name: "number parts: a fraction alone is taken",
+        list: "numbers",
+        smallest: &["2e30 "],
+        fault: |done| {
+            if accepted(done, Call::NumberParts) && number(done, b".0") {
+                *done.reply = vec![0, 1, 2, 10, 2, 0];
+            }
+        },
+    },
+    Entry {
+        name: "number parts: a number is taken out of a text that is not well-formed",
+        list: "numbers",
+        smallest: &["30ff "],
+        fault: |done| {
+            if done.reply[0] == 2 && number(done, b"0") && holds(done, b"\xFF") {
+                *done.reply = vec![0, 1, 1, 10, 1, 0];
+            }
+        },
+    },
+    Entry {
+        name: "number parts: a byte of the text is written",
+        list: "numbers",
+        smallest: &["61 "],
+        fault: |done| {
+            if accepted(done, Call::NumberParts) && !done.bytes.is_empty() {
+                done.bytes[0] ^= 1;
+            }
         },
     },
 ];

@@ -18,10 +18,11 @@ pub enum Call {
     Report,
     Column,
     ByteValue,
+    NumberParts,
 }
 
 /// Their names, in the same order.
-pub const CALLS: [&str; 9] = [
+pub const CALLS: [&str; 10] = [
     "fresh",
     "read",
     "edit",
@@ -31,6 +32,7 @@ pub const CALLS: [&str; 9] = [
     "report",
     "panel column",
     "byte value",
+    "number parts",
 ];
 
 /// A call that has returned: its text as it is now, its reply, and the buffers that it may write.
@@ -68,7 +70,7 @@ pub struct SeenPage<'a> {
 #[derive(Default)]
 pub struct Library {
     fault: Option<Fault>,
-    counts: [Cell<u64>; 9],
+    counts: [Cell<u64>; 10],
 }
 
 /// What the reply's words hold before a call.
@@ -94,7 +96,7 @@ impl Library {
     }
 
     /// How often each function was called.
-    pub fn counts(&self) -> [u64; 9] {
+    pub fn counts(&self) -> [u64; 10] {
         self.counts.each_ref().map(Cell::get)
     }
 
@@ -282,5 +284,22 @@ impl Library {
             lexpage::lexpage_byte_value(text.as_ptr(), text.len(), reply)
         });
         self.answered(Call::ByteValue, text, reply)
+    }
+
+    /// The parts of the number at a text's front; lent to be written, so that a written text can be seen.
+    pub fn number_parts(&self, text: &mut [u8]) -> Vec<u64> {
+        let given = text.to_vec();
+        let mut reply = written(|reply| unsafe {
+            lexpage::lexpage_number_parts(text.as_mut_ptr(), text.len(), reply)
+        });
+        self.done(Done {
+            call: Call::NumberParts,
+            text: &given,
+            reply: &mut reply,
+            bytes: text,
+            lines: &mut [],
+            tokens: &mut [],
+        });
+        reply
     }
 }

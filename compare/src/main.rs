@@ -29,9 +29,10 @@ pub fn held(library: &Library, case: &Case) -> Held {
 }
 
 /// A round of generated cases: so many of each list, 100 texts in all.
-const ROUND: [(&str, usize); 6] = [
-    ("texts", 97),
+const ROUND: [(&str, usize); 7] = [
+    ("texts", 87),
     ("long", 3),
+    ("numbers", 10),
     ("edits", 8),
     ("scripts", 1),
     ("calls", 10),
@@ -110,6 +111,8 @@ impl Totals {
         self.fixed("edits at the limit", edits::limit_holds(library, MAX_BYTES));
         self.fixed("no room", edits::limit_holds(library, MAX_BYTES - 1));
         self.fixed("texts at the limit", edits::long_texts_hold(library));
+        self.fixed("numbers", texts::short_numbers_hold(library));
+        self.fixed("numbers at the limit", texts::long_numbers_hold(library));
         let texts = recorded_texts().into_iter().map(Case::Text);
         let lists = recorded_histories()
             .into_iter()

@@ -1,6 +1,7 @@
 //! One call of a C function: what it is lent by kind, its model, and the line that records it.
 
 use crate::format::{digest_of, group, hex};
+use crate::numbers::number_parts;
 use crate::page::{byte_value, panel_column, read_into, report, walk_step, Lengths, Page};
 use crate::reading::Reply;
 use std::mem;
@@ -88,6 +89,7 @@ impl Call {
         match (self.name, &mut bytes[..], &mut words[..]) {
             ("panel_column", [text], _) => panel_column(text, numbers[0]),
             ("byte_value", [text], _) => byte_value(text),
+            ("number_parts", [text], _) => number_parts(text),
             ("report", [text, out], _) => report(text, out),
             ("walk_step", _, [tokens]) => walk_step(tokens, numbers[0]),
             ("token_text", [_, names], _) => {

@@ -4,7 +4,7 @@ use crate::format::{call_case, free_case, history_cases, text_case};
 use crate::generate::calls::{calls, Calls};
 use crate::generate::edits::{history, script_history, History};
 use crate::generate::free::{free_edit, FreeEdit};
-use crate::generate::{texts, Random};
+use crate::generate::{numbers, texts, Random};
 
 /// A text by itself, a list of edits from the fresh page on, a page with calls around it, or an edit of an unfaithful page.
 #[derive(Debug, Clone, PartialEq, Eq)]
@@ -27,6 +27,7 @@ impl Case {
         let case = match list {
             "texts" => Case::Text(texts::small(random)),
             "long" => Case::Text(texts::long(random)),
+            "numbers" => Case::Text(numbers::number(random)),
             "calls" => Case::Calls(calls(random)),
             "free" => Case::Free(free_edit(random)),
             "edits" => {

@@ -6,6 +6,7 @@ pub mod calls;
 pub mod edits;
 pub mod free;
 pub mod lists;
+pub mod numbers;
 pub mod single_calls;
 pub mod texts;
 pub mod utf8;

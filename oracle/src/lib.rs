@@ -8,6 +8,7 @@ pub mod examples;
 pub mod format;
 pub mod generate;
 pub mod kept;
+pub mod numbers;
 pub mod original;
 pub mod page;
 pub mod reading;

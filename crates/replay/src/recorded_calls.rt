@@ -8,6 +8,7 @@ pub enum Function {
     Read,
     PanelColumn,
     ByteValue,
+    NumberParts,
     Report,
     TokenText,
     WalkStep,
@@ -45,6 +46,9 @@ pub fn function_of(name: &[u8]) -> Function {
     }
     if check::same(name, b"byte_value") {
         return Function::ByteValue;
+    }
+    if check::same(name, b"number_parts") {
+        return Function::NumberParts;
     }
     if check::same(name, b"report") {
         return Function::Report;

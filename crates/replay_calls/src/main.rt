@@ -33,6 +33,7 @@ fn query(
     match f {
         Function::PanelColumn => lexpage::lexpage_panel_column(first, i, reply),
         Function::ByteValue => lexpage::lexpage_byte_value(first, reply),
+        Function::NumberParts => lexpage::lexpage_number_parts(first, reply),
         Function::WalkStep => lexpage::lexpage_walk_step(left, i, reply),
         Function::Check => lexpage::lexpage_check(n, m, k, first, left, right, reply),
         Function::TokenText => {

@@ -25,18 +25,18 @@ fn parsed(arguments: &[String]) -> Option<(u64, u64, &str)> {
         return None;
     };
     match list.as_str() {
-        "texts" | "long" | "edits" | "scripts" | "calls" | "free" => {
+        "texts" | "long" | "numbers" | "edits" | "scripts" | "calls" | "free" => {
             Some((count.parse().ok()?, seed.parse().ok()?, list))
         }
         _ => None,
     }
 }
 
-/// cases N SEED texts|long|edits|scripts|calls|free
+/// cases N SEED texts|long|numbers|edits|scripts|calls|free
 fn main() -> ExitCode {
     let arguments: Vec<String> = env::args().skip(1).collect();
     let Some((count, seed, list)) = parsed(&arguments) else {
-        eprintln!("usage: cases N SEED texts|long|edits|scripts|calls|free");
+        eprintln!("usage: cases N SEED texts|long|numbers|edits|scripts|calls|free");
         return ExitCode::from(2);
     };
     match write_cases(count, seed, list) {

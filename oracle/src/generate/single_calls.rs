@@ -1,8 +1,10 @@
 //! The calls by themselves whose answers are recorded.
 
 use super::calls::page_of;
+use super::numbers::filled;
 use crate::call::Call;
 use crate::examples;
+use crate::numbers::SUFFIXES;
 use crate::page::{message, Page, NAMES};
 use crate::reading::{fresh_reading, LINE_WORDS, MAX_BYTES, TOKEN_WORDS};
 use std::collections::HashSet;
@@ -58,6 +60,57 @@ fn byte_values() -> Vec<Call> {
     let refused = refused_texts();
     values
         .chain(refused.iter().map(|text| call(text)))
+        .collect()
+}
+
+/// Numbers of both bases with each suffix, and with what is not quite one.
+fn suffixed() -> Vec<Vec<u8>> {
+    const FRONTS: [&str; 12] = [
+        "0", "9", "00", "1_", "1.5", "1.5_", "0x", "0X", "0x_", "0X1", "0xf", "0XF_",
+    ];
+    const OTHERS: [&str; 14] = [
+        "f", "x", "i", "i3", "u", "u3", "f6", "FX", "I32", "U32", "F64", "fxfx", "i64", "f32",
+    ];
+    let with = |front: &str| {
+        let suffixes = SUFFIXES.into_iter().chain(OTHERS);
+        let texts = suffixes.map(|suffix| [front, suffix].concat().into_bytes());
+        texts.collect::<Vec<_>>()
+    };
+    FRONTS.into_iter().flat_map(with).collect()
+}
+
+/// Numbers in texts as long as they may be and longer, and before bytes that are not well-formed.
+fn number_limits() -> Vec<Vec<u8>> {
+    vec![
+        filled(b"", b'1', b""),
+        filled(b"1.", b'5', b"_f64"),
+        filled(b"0X", b'f', b"64"),
+        filled(b"0x", b'_', b"u32"),
+        filled(b"7", b' ', b"\n"),
+        filled(b"", b'a', b"1"),
+        filled(b"", b'1', b"\xC3"),
+        vec![b'1'; MAX_BYTES + 1],
+        [&filled(b"", b'1', b"")[..], b"\xFF"].concat(),
+        [&filled(b"", b'1', b"")[..], &[b'_'; 1_024]].concat(),
+        b"38\xFF".to_vec(),
+        b"0x\x80".to_vec(),
+        b"1.\xC3".to_vec(),
+        b"1i32 \xF4\x90\x80\x80".to_vec(),
+        b"\xFF1".to_vec(),
+    ]
+}
+
+/// "Digits and suffix told apart": also each byte at the front, behind a digit, behind a `.` and behind `0x`; each text once.
+fn number_parts() -> Vec<Call> {
+    let by_hand = examples::PARTS.iter().map(|(text, _)| text.to_vec());
+    let none = examples::NO_NUMBERS.iter().map(|text| text.to_vec());
+    let fronts = [&b""[..], b"1", b"1.", b"0x"].into_iter();
+    let bytes = fronts.flat_map(|front| (0..=255).map(move |byte| [front, &[byte]].concat()));
+    let short = by_hand.chain(none).chain(suffixed()).chain(bytes);
+    let all = short.chain(number_limits()).chain(refused_texts());
+    let mut met = HashSet::new();
+    let once = all.filter(|text| met.insert(text.clone()));
+    once.map(|text| Call::of("number_parts").bytes(&text))
         .collect()
 }
 
@@ -293,6 +346,7 @@ pub fn single_calls() -> Vec<Call> {
     [
         panel_columns(),
         byte_values(),
+        number_parts(),
         reports(),
         readings(),
         fresh_pages(),

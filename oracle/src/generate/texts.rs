@@ -145,7 +145,7 @@ fn heap(random: &mut Random) -> Vec<u8> {
 }
 
 /// One byte changed, put in or taken out.
-fn damage(random: &mut Random, text: &mut Vec<u8>) {
+pub fn damage(random: &mut Random, text: &mut Vec<u8>) {
     const BYTES: &[u8] = b"\n\r\t (->)#/\"b'\\x078&|_.a\0\x7F\x80\xBF\xC2\xE2\xED\xF0\xF4\xFF";
     let at = random.below(text.len() + 1);
     let byte = random.pick(BYTES);

@@ -2,6 +2,7 @@
 
 mod edit_laws;
 mod free_edits;
+mod numbers;
 mod pages_by_hand;
 mod probes;
 mod readings_by_hand;
@@ -10,12 +11,13 @@ mod tally;
 mod text_laws;
 
 use oracle::generate::utf8::well_formed_prefix;
-use oracle::generate::{edits, lists, texts, Random};
+use oracle::generate::{self, edits, lists, texts, Random};
 use std::process::ExitCode;
 use tally::Tally;
 
-/// How many texts, lists of edits and edits of unfaithful pages are generated.
+/// How many texts, texts that begin with numbers, lists of edits and edits of unfaithful pages are generated.
 const TEXTS: usize = 60_000;
+const NUMBERS: usize = 20_000;
 const HISTORIES: usize = 8_000;
 const SCRIPT_HISTORIES: usize = 100;
 const FREE_EDITS: usize = 20_000;
@@ -25,6 +27,11 @@ fn short_texts(tally: &mut Tally) {
     let bytes = texts::every(texts::LAYOUT, 4).chain(texts::every(texts::LITERALS, 4));
     for text in bytes.chain(texts::every(texts::STATES, 5)) {
         text_laws::check(tally, &text, text.len() <= 5);
+    }
+    for text in texts::every(generate::numbers::PIECES, 4) {
+        tally.expect(numbers::parts_hold(&text), || {
+            format!("number in {:?}", String::from_utf8_lossy(&text))
+        });
     }
 }
 
@@ -36,6 +43,10 @@ fn other_texts(tally: &mut Tally) {
     let mut random = Random::new(3);
     for _ in 0..TEXTS {
         let text = texts::small(&mut random);
+        text_laws::check(tally, &text, true);
+    }
+    for _ in 0..NUMBERS {
+        let text = generate::numbers::number(&mut random);
         text_laws::check(tally, &text, true);
     }
 }
@@ -81,6 +92,7 @@ fn main() -> ExitCode {
     let mut tally = Tally::default();
     readings_by_hand::check(&mut tally);
     pages_by_hand::check(&mut tally);
+    numbers::check(&mut tally);
     tally.end_of_part("cases by hand");
     short_texts(&mut tally);
     tally.end_of_part("every short text");

@@ -25,11 +25,12 @@ const PROGRAMS: [(&str, [&str; 2]); 3] = [
 const LISTS: [&str; 2] = ["stdin", "data/altered"];
 
 /// The first numbers of the replies that each function's recorded calls have, and with 5 the buffers.
-const REPLIES: [(&str, &[u64], &[u64]); 9] = [
+const REPLIES: [(&str, &[u64], &[u64]); 10] = [
     ("byte_value", &[0, 1, 2], &[]),
     ("check", &[0, 7], &[]),
     ("edit", &[0, 1, 2, 3, 4, 5, 6, 7], &[1, 2, 3, 4]),
     ("fresh", &[0, 5], &[3]),
+    ("number_parts", &[0, 1, 2], &[]),
     ("panel_column", &[0, 1, 2, 6], &[]),
     ("read", &[0, 1, 2, 3, 4, 5], &[3, 4]),
     ("report", &[0, 1, 2, 4, 5], &[5]),
@@ -154,7 +155,9 @@ fn check_kept(tally: &mut Tally) {
 /// A case of each list, read back from its lines, is the same.
 fn check_read_back(tally: &mut Tally) {
     let mut random = Random::new(5);
-    for list in ["texts", "long", "edits", "scripts", "calls", "free"] {
+    for list in [
+        "texts", "long", "numbers", "edits", "scripts", "calls", "free",
+    ] {
         for case in (0..100).filter_map(|_| AnyCase::generated(&mut random, list)) {
             let back = read_back(case.list(), &case.lines().join("\n"));
             let same = back == Some(vec![case.clone()]);

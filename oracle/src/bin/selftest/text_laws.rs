@@ -1,5 +1,6 @@
 //! What holds of every text: laws of a reading, of a failure and of the calls around the page.
 
+use crate::numbers;
 use crate::probes;
 use crate::tally::Tally;
 use oracle::generate::utf8::well_formed_prefix;
@@ -20,6 +21,7 @@ pub fn check(tally: &mut Tally, text: &[u8], probed: bool) {
             tally.expect(gaps_hold(text, reading), || about("gaps"));
             tally.expect(states_hold(text, reading, probed), || about("states"));
             tally.expect(page_holds(text, reading), || about("page"));
+            tally.expect(numbers::tokens_hold(text, reading), || about("numbers"));
         }
         Err(refusal) => {
             tally.note_reply(&refusal.numbers());
@@ -29,6 +31,7 @@ pub fn check(tally: &mut Tally, text: &[u8], probed: bool) {
     tally.expect(read_into_holds(text, &reading), || about("read_into"));
     tally.expect(report_holds(text, &reading), || about("report"));
     tally.expect(columns_hold(text), || about("columns"));
+    tally.expect(numbers::parts_hold(text), || about("number"));
 }
 
 /// "Newline stands at the line's end"; "Lines count from 1, columns in bytes from 1."
