@@ -16,7 +16,7 @@ use Rattle.rules.specs.Utf8.{scalarSize}
 use Rattle.rules.specs.Kinds.{Str, Indent}
 use Rattle.rules.specs.Tables.{isBlank, isCR, isDigit, isLetter, isHexDigit, isSign, classOf, Spelling, keywords, signs, wordKind, tableRules}
 use Rattle.rules.specs.Failure.{Failure, failure, unterminatedString}
-use Rattle.rules.specs.Cut.{Cut, blank, comment, ends, token, fails, finding, inDecimal, inHex, inWord, inString, fractionSize, decimalSize, isHex, digitsSize, Suffix, suffixBytes, suffixes, suffixOf, scanNumber, numberCut, stringEnd, stringCut, closingCut, lowDigitCut, highDigitCut, escapeCut, contentCut, byteCut, wordCut, letterCut, signCut, cutBy, cut}
+use Rattle.rules.specs.Cut.{Cut, blank, comment, ends, token, fails, finding, inDecimal, inWord, inString, fractionSize, decimalSize, isHex, digitsSize, Suffix, suffixBytes, suffixes, suffixOf, scanNumber, numberCut, stringEnd, stringCut, closingCut, lowDigitCut, highDigitCut, escapeCut, contentCut, byteCut, wordCut, letterCut, signCut, cutBy, cut}
 use Rattle.rules.specs.Line.{tokenAt, movedBy, cuts, stops, withToken, cutStep, cutsFrom}
 use Rattle.rules.proofs.Utf8Laws.{size-le}
 use Rattle.rules.proofs.ListLaws.{if-by, or-by, or-left, and-true, run-some, run-le, begins-le, trimEnd-le, trimEnd-drop}
@@ -79,8 +79,9 @@ decimal-le s = omega (arith, run-le inDecimal s, fraction-le (drop (run inDecima
 abbrev InLine : List ℕ → ℕ → Type 0
 InLine s n = (0 < n) × (n ≤ length s)
 
-hex-in : (s : List ℕ) → 2 ≤ length s → InLine s (2 + run inHex (drop 2 s))
-hex-in s h = (omega arith, omega (arith, run-le inHex (drop 2 s), length-drop 2 s))
+-- a run behind two bytes
+marked-in : (f : ℕ → Bool) (s : List ℕ) → 2 ≤ length s → InLine s (2 + run f (drop 2 s))
+marked-in f s h = (omega arith, omega (arith, run-le f (drop 2 s), length-drop 2 s))
 
 pub hex-room : (s : List ℕ) → isHex s ≡ true → 2 ≤ length s
 unfolding isHex
@@ -88,12 +89,12 @@ hex-room s = or-by (begins (ascii "0x") s) (begins (ascii "0X") s) (begins-le (a
 
 pub digits-le : (s : List ℕ) → digitsSize s ≤ length s
 unfolding digitsSize
-digits-le s = if-by (λ n. n ≤ length s) (isHex s) (λ k. hex-in s (hex-room s k) .1) (λ _. decimal-le s)
+digits-le s = if-by (λ n. n ≤ length s) (isHex s) (λ k. marked-in _ s (hex-room s k) .1) (λ _. decimal-le s)
 
 digits-in : (b : ℕ) (s : List ℕ) → isDigit b ≡ true → InLine (b ∷ s) (digitsSize (b ∷ s))
 unfolding digitsSize decimalSize inDecimal
 digits-in b s h =
-    if-by (InLine (b ∷ s)) (isHex (b ∷ s)) (λ k. hex-in (b ∷ s) (hex-room (b ∷ s) k))
+    if-by (InLine (b ∷ s)) (isHex (b ∷ s)) (λ k. marked-in _ (b ∷ s) (hex-room (b ∷ s) k))
     (λ _. (omega (arith, run-some inDecimal b s (or-left (isDigit b) (eqb b (code "_")) h)), decimal-le (b ∷ s)))
 
 pub number-le : (s : List ℕ) → scanNumber s .end ≤ length s

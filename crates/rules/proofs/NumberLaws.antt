@@ -1,19 +1,20 @@
 -- Laws of numbers: which suffixes base 16 has, and which cuts are numbers.
 -- Assumes nothing.
-use Prim.Native.Nat.{ℕ, suc, _+_}
+use Prim.Native.Nat.{ℕ, _+_, _-_}
 use Prim.Native.Char.{code}
 use mathlib.Core.Path.{_≡_, refl, sym, ap, _∙_}
 use mathlib.Core.Bool.{Bool, true, false, _&&_, not, false≢true}
 use mathlib.Core.List.{List, [], _∷_}
 use mathlib.Core.Logic.{_⊎_, inl, inr}
 use native.Mathlib.Omega.{arith}
-use lib.Dec.{leb, eqb}
+use lib.Dec.{leb, eqb, eqb→eq}
 use lib.ListN.{drop}
 use lib.Seq.{drop-drop}
-use borrow.Author.Tests.{leb-true, lt-leb, ne-eqb, eqb-true}
-use Rattle.rules.specs.Lists.{if_then_else_, ascii, any, elem, run, begins}
+use borrow.Author.Tests.{leb-true, eqb-true}
+use Rattle.laws.proofs.Below.{at}
+use Rattle.rules.specs.Lists.{if_then_else_, ascii, run, begins}
 use Rattle.rules.specs.Kinds.{Num}
-use Rattle.rules.specs.Tables.{isBlank, isDigit, isLetter, digitClass, classOf, keywords, signs, tableRules}
+use Rattle.rules.specs.Tables.{isDigit, digitClass, classOf, keywords, signs, tableRules}
 use Rattle.rules.specs.Cut.{Cut, blank, comment, token, inHex, isHex, baseOf, digitsSize, Suffix, noSuffix, i32, u32, suffixBytes, suffixes, suffixOf, scanNumber, numberCut, finding, wordCut, letterCut, signCut, stringCut, cutBy, cut, cutRules}
 use Rattle.rules.specs.Numbers.{beginsWithDigit}
 use Rattle.rules.proofs.ListLaws.{if-by, and-true, run-true, run-false}
@@ -66,13 +67,15 @@ hex-suffix s h = go (isHex s) refl h
 
 -- Cuts that are numbers.
 
+-- the class of the ten digits, computed
 pub digit-class : (b : ℕ) → isDigit b ≡ true → classOf b ≡ digitClass
-unfolding isDigit isBlank isLetter classOf elem any
+unfolding tableRules
 digit-class b h =
     let w = and-true (leb 48 b) (leb b 57) h in
     let lo = leb-true 48 b (w .0) in
     let hi = leb-true b 57 (w .1) in
-    rw (ne-eqb b 32 (λ e. omega arith), ne-eqb b 9 (λ e. omega arith), ne-eqb b 13 (λ e. omega arith), ne-eqb b 35 (λ e. omega arith), lt-leb 65 b (omega arith), lt-leb 97 b (omega arith), w .0, w .1)
+    let e : 48 + (b - 48) ≡ b = omega arith in
+    rw (← e) (eqb→eq (classOf (48 + (b - 48))) digitClass (at (λ k. eqb (classOf (48 + k)) digitClass) 10 tt (b - 48) (omega arith)))
 
 -- no other cutter gives the kind of a number
 isOther : ℕ → Bool
