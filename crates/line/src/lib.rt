@@ -94,21 +94,15 @@ fn cut_line(
             }
         }
         match cut::cut_by_class(tables, line, at, place.write) {
-            literals::Cut::Blank => {
-                t = cursor::past_blank(t);
-            }
-            literals::Cut::Comment => {
-                return LineCuts::Ends(t.n, t.open, t.arrow);
-            }
+            literals::Cut::Blank => t = cursor::past_blank(t),
+            literals::Cut::Comment => return LineCuts::Ends(t.n, t.open, t.arrow),
             literals::Cut::Token(kind, size) => {
-                t = cursor::past_token(tokens, place, t, kind, size);
+                t = cursor::past_token(tokens, place, t, kind, size)
             }
             literals::Cut::Number(number) => {
-                t = cursor::past_token(tokens, place, t, 46, number.end);
+                t = cursor::past_token(tokens, place, t, 46, number.end)
             }
-            literals::Cut::Fails(f) => {
-                return LineCuts::Stops(moved_by(at, f));
-            }
+            literals::Cut::Fails(f) => return LineCuts::Stops(moved_by(at, f)),
         }
     }
     LineCuts::Ends(t.n, t.open, t.arrow)

@@ -94,12 +94,8 @@ fn same_cuts(
     let mut t = cursor::cursor_at(0, depth);
     while t.at < line.len() {
         match cut::cut_by_class(tables, line, t.at, true) {
-            literals::Cut::Blank => {
-                t = cursor::past_blank(t);
-            }
-            literals::Cut::Comment => {
-                return SameCuts::Ends(t.n, t.open, t.arrow);
-            }
+            literals::Cut::Blank => t = cursor::past_blank(t),
+            literals::Cut::Comment => return SameCuts::Ends(t.n, t.open, t.arrow),
             literals::Cut::Token(kind, size) => {
                 if !same_at(tokens, place, m, t, kind, size) {
                     return SameCuts::Differs;
@@ -112,9 +108,7 @@ fn same_cuts(
                 }
                 t = cursor::behind_token(t, 46, number.end);
             }
-            literals::Cut::Fails(_) => {
-                return SameCuts::Differs;
-            }
+            literals::Cut::Fails(_) => return SameCuts::Differs,
         }
     }
     SameCuts::Ends(t.n, t.open, t.arrow)
