@@ -72,6 +72,10 @@ fresh-after lim t r h = go (testOf lim t) (tested lim t) ∙ ap (freshAfter lim 
     go (Refused u) (illFormed e f) = rw (e, f) (ap unread (sym (unread-back (malformedBy t))))
 
 -- a reply whose tests begin with these two, under the barge's limits
+-- the answer r to a test under limits that are the barge's
+pub barge-test : {lim : Limits} {r : TextTest} (t : List ℕ) → lim ≡ barge → r ≡ testOf lim t → (s : TextTest) → r ≡ s → testOf barge t ≡ s
+barge-test t is-barge is-test s e = ap (λ (l : Limits). testOf l t) (sym is-barge) ∙ sym is-test ∙ e
+
 abbrev pub replyAfter : TextTest → Reply → Reply
 replyAfter Passes reply = reply
 replyAfter (Refused u) reply = numberedUnread (unreadOf u)

@@ -1,16 +1,16 @@
 -- `checking::is_fresh` meets its contract.
 -- Assumes nothing.
 use Prim.Native.Nat.{ℕ}
-use mathlib.Core.Path.{_≡_, refl, sym, ap, _∙_}
+use mathlib.Core.Path.{_≡_, refl, ap, _∙_}
 use mathlib.Core.List.{List}
 use lib.ListN.{length}
-use Rattle.rules.specs.Limits.{Limits, LineLimits, barge}
+use Rattle.rules.specs.Limits.{LineLimits, barge}
 use Rattle.rules.specs.Records.{header, Records, readLines}
 use Rattle.rules.specs.Page.{isRecorded}
 use Rattle.refusals.specs.Unreads.{testOf}
 use Rattle.refusals.specs.declared.TextTest.{TextTest}
 use Rattle.refusals.specs.declared.TextTest.the-variants.{Passes, Refused}
-use Rattle.refusals.proofs.Tests.{passes-short}
+use Rattle.refusals.proofs.Tests.{passes-short, barge-test}
 use Rattle.refusals.proofs.Barge.{barge-line, barge-fits}
 use Rattle.checking.proofs.Pages.{refused-text, lines-decide}
 use borrow.Author.Needs.{needs}
@@ -29,7 +29,7 @@ module _ (x : tie.After-test-text) where
   given = record { head = header (length text) (start .args .count) (start .args .total); lines = start .args .lines .now; tokens = start .args .tokens .now }
 
   test-is : (r : TextTest) → x .test-text .result ≡ r → testOf barge text ≡ r
-  test-is r e = ap (λ (l : Limits). testOf l text) (sym (x .before .barge-limits .ensures)) ∙ sym (x .test-text .ensures) ∙ e
+  test-is = barge-test text (x .before .barge-limits .ensures) (x .test-text .ensures)
 
 -- The text passed both tests.
 module _ (w : tie.After-widths) where

@@ -1,16 +1,16 @@
 -- `columns::panel_column` meets its contract.
 -- Assumes nothing.
 use Prim.Native.Nat.{ℕ}
-use mathlib.Core.Path.{_≡_, sym, ap, _∙_}
+use mathlib.Core.Path.{_≡_, sym, _∙_}
 use mathlib.Core.List.{List, [], _∷_}
 use borrow.Author.Needs.{needs}
-use Rattle.rules.specs.Limits.{Limits, barge}
+use Rattle.rules.specs.Limits.{barge}
 use Rattle.rules.specs.Replies.{outside, accepted, refusedIf}
 use Rattle.rules.specs.Column.{isOutside, panelColumn, columnTests, columnReply}
 use Rattle.refusals.specs.Unreads.{testOf}
 use Rattle.refusals.specs.declared.TextTest.{TextTest}
 use Rattle.refusals.specs.declared.TextTest.the-variants.{Passes, Refused}
-use Rattle.refusals.proofs.Tests.{passes-short, replyAfter, reply-after}
+use Rattle.refusals.proofs.Tests.{passes-short, barge-test, replyAfter, reply-after}
 use Rattle.columns.specs.Answers.{placeReply}
 use Rattle.columns.proofs.panel_column.Statement.{statement}
 use Rattle.columns.proofs.panel_column.Tie as tie
@@ -24,7 +24,7 @@ module _ (x : tie.After-test-text) where
   text = start .args .text .now
 
   test-is : (r : TextTest) → x .test-text .result ≡ r → testOf barge text ≡ r
-  test-is r e = ap (λ (l : Limits). testOf l text) (sym (x .before .barge-limits .ensures)) ∙ sym (x .test-text .ensures) ∙ e
+  test-is = barge-test text (x .before .barge-limits .ensures) (x .test-text .ensures)
 
   reply-is : (r : TextTest) → x .test-text .result ≡ r → columnReply text (start .args .at) ≡ replyAfter r (placeReply text (start .args .at))
   unfolding columnReply columnTests

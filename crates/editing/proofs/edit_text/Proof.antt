@@ -5,7 +5,7 @@ use mathlib.Core.Path.{_≡_, sym, ap, subst, _∙_}
 use mathlib.Core.List.{List}
 use native.Mathlib.Omega.{arith}
 use lib.ListN.{length, take}
-use Rattle.rules.specs.Limits.{Limits, barge}
+use Rattle.rules.specs.Limits.{barge}
 use Rattle.rules.specs.Records.{header}
 use Rattle.rules.specs.Page.{Lent, pageText}
 use Rattle.rules.specs.StopRule.{Edit, edited}
@@ -13,6 +13,7 @@ use Rattle.rules.proofs.PageLaws.{fits-true}
 use Rattle.refusals.specs.Unreads.{testOf}
 use Rattle.refusals.specs.declared.TextTest.{TextTest}
 use Rattle.refusals.specs.declared.TextTest.the-variants as tests
+use Rattle.refusals.proofs.Tests.{barge-test}
 use Rattle.plans.specs.Plans.{editOf, Planned, PlanIs}
 use Rattle.plans.specs.declared.PlanAnswer.{PlanAnswer}
 use Rattle.editing.specs.Answers.{lent}
@@ -86,7 +87,7 @@ module _ (x : tie.After-test-text) where
   text-of = take (start splice-of .args .size) (spare-at splice-of)
 
   test-is : (r : TextTest) → x .test-text .result ≡ r → testOf barge text-of ≡ r
-  test-is r e = ap (λ (l : Limits). testOf l text-of) (sym (x .before .before .barge-limits .ensures)) ∙ sym (x .test-text .ensures) ∙ e
+  test-is = barge-test text-of (x .before .before .barge-limits .ensures) (x .test-text .ensures)
 
 enum-known-u : tie.Need-enum-known-u
 enum-known-u c = search needs

@@ -9,7 +9,7 @@ use borrow.Author.Needs.{needs}
 use lib.ListN.{length, drop, length-drop}
 use lib.Seq.{drop-drop}
 use Rattle.rules.specs.Lists.{if_then_else_}
-use Rattle.rules.specs.Cut.{Suffix, baseOf, digitsSize, suffixBytes, suffixes, suffixOf, numberWith, scanNumber}
+use Rattle.rules.specs.Cut.{Suffix, baseOf, digitsSize, suffixBytes, suffixes, suffixOf, scanNumber}
 use Rattle.rules.proofs.CutLaws.{digits-le, number-le}
 use Rattle.numbers.specs.Numbers.{ruleSuffix}
 use Rattle.numbers.proofs.scan_number.Statement.{statement}
