@@ -42,14 +42,15 @@ fractionSize s = if begins (ascii ".") s && ltb 0 (run isDigit (drop 1 s)) then 
 unfoldable pub decimalSize : List ℕ → ℕ
 decimalSize s = run inDecimal s + fractionSize (drop (run inDecimal s) s)
 
--- behind `0x` or `0X`
+-- it begins with `0x` or `0X`
 unfoldable pub isHex : List ℕ → Bool
 isHex s = begins (ascii "0x") s || begins (ascii "0X") s
 
+-- the base (10 or 16)
 unfoldable pub baseOf : List ℕ → ℕ
 baseOf s = if isHex s then 16 else 10
 
--- the mark of base 16 counts among the digits
+-- where digits, `_` and fraction end; `0x` counts among them
 unfoldable pub digitsSize : List ℕ → ℕ
 digitsSize s = if isHex s then 2 + run inHex (drop 2 s) else decimalSize s
 
@@ -67,10 +68,11 @@ suffixBytes i32 = ascii "i32"
 suffixBytes u32 = ascii "u32"
 suffixBytes f64 = ascii "f64"
 
+-- at most one of `fx` `i32` `u32` `f64`
 unfoldable pub suffixes : List Suffix
 suffixes = fx ∷ i32 ∷ u32 ∷ f64 ∷ []
 
--- the first of these that s begins with
+-- which suffix follows, if any: the first of these that s begins with
 unfoldable pub suffixOf : List Suffix → List ℕ → Suffix
 suffixOf [] s = noSuffix
 suffixOf (x ∷ xs) s = if begins (suffixBytes x) s then x else suffixOf xs s

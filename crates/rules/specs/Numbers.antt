@@ -1,4 +1,4 @@
--- The number at the front of a text, with digits and suffix told apart.
+-- The number at the front of a text, with digits and suffix told apart (F-1).
 -- Assumes nothing.
 use Prim.Native.Nat.{ℕ}
 use mathlib.Core.Bool.{Bool, false}
