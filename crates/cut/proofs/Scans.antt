@@ -31,6 +31,6 @@ module _ (w : Bool) (line : List ℕ) (at : ℕ) (h : at < length line) where
   pub no-number : {k : ℕ} → classOf (getD line at 0) ≡ k → (k ≡ digitClass → ⊥) → (x : Cut) → cutOf x ≡ cutNamed w (cut (drop at line)) → Scanned x (drop at line)
   no-number e n Blank q = tt
   no-number e n Comment q = tt
-  no-number e n (Token kind size) q = tt
+  no-number e n (Token kind size) q = λ k. n (sym e ∙ digit-class (getD line at 0) (digit-first size (sym q ∙ ap (λ (i : ℕ). token i size) k)))
   no-number e n (Number x) q = absurd (n (sym e ∙ digit-class (getD line at 0) (digit-first (x .end) (sym q))))
   no-number e n (Fails f) q = tt

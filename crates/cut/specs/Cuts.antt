@@ -6,7 +6,7 @@ use mathlib.Core.Bool.{Bool, true, false}
 use mathlib.Core.List.{List}
 use lib.Dec.{ltb}
 use Rattle.rules.specs.Lists.{if_then_else_, ascii, begins}
-use Rattle.rules.specs.Kinds.{Ident}
+use Rattle.rules.specs.Kinds.{Ident, Num}
 use Rattle.rules.specs.Tables.{signs}
 use Rattle.rules.specs.Cut as rules-cut
 use Rattle.numbers.specs.Numbers.{numberOf}
@@ -17,11 +17,11 @@ use Rattle.literals.specs.declared.Cut.the-variants as a-cut
 abbrev pub commentOr : List ℕ → rules-cut.Cut
 commentOr s = if begins (ascii "//") s then rules-cut.Cut.comment else rules-cut.signCut signs s
 
--- a number has the scan of what it is cut from
+-- a number has the scan of what it is cut from, and no other cut is a Num token
 abbrev pub Scanned : cut.Cut → List ℕ → Type 0
 Scanned a-cut.Blank s = Unit {0}
 Scanned a-cut.Comment s = Unit {0}
-Scanned (a-cut.Token k n) s = Unit {0}
+Scanned (a-cut.Token k n) s = k ≡ Num → ⊥
 Scanned (a-cut.Number n) s = numberOf n ≡ rules-cut.scanNumber s
 Scanned (a-cut.Fails f) s = Unit {0}
 
