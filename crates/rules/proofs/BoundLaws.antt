@@ -3,14 +3,15 @@
 use Prim.Native.Nat.{ℕ, zero, suc, ◌+◌, ◌-◌, ◌*◌, ◌≤◌, ◌<◌, zero-le, pred, min, max}
 use Prim.Native.Char.{code}
 use mathlib.Core.Path.{◌≡◌, refl, sym, ◌∙◌}
-use mathlib.Core.Bool.{Bool, true, false, ◌&&◌, not, false≢true}
+use mathlib.Core.Bool.{Bool, true, false, not, false≢true}
 use mathlib.Core.List.{List, [], ◌∷◌, ◌++◌}
 use native.Mathlib.Omega.{arith}
 use lib.Dec.{ltb, eqb}
 use lib.ListN.{length, take, drop, replicate, length-append, length-take, length-replicate}
 use borrow.Author.Tests.{ltb-true, eqb-true, not-true}
-use Rattle.rules.specs.Lists.{if◌then◌else◌, bit, any, elem, run, trimmed, trim_end, last_d}
-use Rattle.rules.specs.Kinds.{l_paren, r_paren, indent, dedent, newline}
+use Rattle.std.specs.Prelude.{if◌then◌else◌}
+use Rattle.rules.specs.Lists.{bit, any, elem, run, trimmed, trim_end, last_d}
+use Rattle.rules.specs.Kinds.{l_paren, r_paren, dedent, newline}
 use Rattle.rules.specs.Tables.{is_blank, class_of}
 use Rattle.rules.specs.Cut.{Cut, blank, comment, ends, token, fails, cut_by, cut}
 use Rattle.rules.specs.Line.{State, initial, Token, token_at, Cuts, cuts, stops, with_token, cut_step, cuts_from, is_space, is_tab, indent_width, after_blanks, is_blank_line, is_compared, Levels, levels, unequal, beyond, dedents, opened, closed, compared, levels_of, depth_after, arrow_after, line_reads, with_cuts, with_levels, read_line}

@@ -11,7 +11,7 @@ use lib.Dec.{ltb, eqb}
 use lib.ListN.{length, take, drop, length-drop, drop_of_length-le}
 use lib.Seq.{drop-cons, drop-drop}
 use borrow.Author.Tests.{ltb-true, lt-ltb, le-ltb}
-use Rattle.rules.specs.Lists.{if◌then◌else◌, within, ascii, every, elem, run, begins, trim_end}
+use Rattle.rules.specs.Lists.{within, ascii, every, elem, run, begins, trim_end}
 use Rattle.rules.specs.Utf8.{scalar_size}
 use Rattle.rules.specs.Kinds.{str, indent}
 use Rattle.rules.specs.Tables.{is_blank, is_cr, is_digit, is_letter, is_hex_digit, is_sign, class_of, Spelling, keywords, signs, word_kind, table_rules}

@@ -1,6 +1,6 @@
 -- The first refusals of an edit, one by one, and the outcome by cases.
 -- Assumes nothing.
-use Prim.Native.Nat.{ℕ, suc, ◌≤◌, ◌<◌}
+use Prim.Native.Nat.{ℕ, ◌≤◌, ◌<◌}
 use mathlib.Core.Path.{◌≡◌, refl, sym, ap, ◌∙◌}
 use mathlib.Core.Bool.{Bool, true, false, ◌||◌}
 use mathlib.Core.List.{List, [], ◌∷◌}
@@ -9,7 +9,7 @@ use native.Mathlib.Omega.{arith}
 use lib.Dec.{ltb}
 use lib.ListN.{length}
 use borrow.Author.Tests.{ltb-false, lt-ltb, le-ltb}
-use Rattle.rules.specs.Lists.{if◌then◌else◌}
+use Rattle.std.specs.Prelude.{if◌then◌else◌}
 use Rattle.rules.specs.Limits.{barge, barge_line}
 use Rattle.rules.specs.Replies.{Unread, Refusal, reading, short, outside, numbered_unread, numbered, is_refused, text_buffer, spare_buffer, lines_buffer, tokens_buffer, refused_if, first_of, unless, is_too_long, too_long_by, is_malformed, malformed_by}
 use Rattle.rules.specs.Records.{line_need, token_need, Records, record_tests, FreshReading, recorded, unread, read_lines, fresh_reading}

@@ -1,21 +1,20 @@
 -- Demand 3: every list of edits from the fresh page leaves what the history on paper says.
 -- Assumes nothing.
-use Prim.Native.Nat.{ℕ, suc, ◌≤◌}
+use Prim.Native.Nat.{ℕ, ◌≤◌}
 use mathlib.Core.Path.{◌≡◌, refl, ap, ◌∙◌}
 use mathlib.Core.Bool.{true}
-use mathlib.Core.List.{List, [], ◌∷◌, ◌++◌}
+use mathlib.Core.List.{List, [], ◌∷◌}
 use native.Mathlib.Omega.{arith}
-use lib.Dec.{ltb}
-use lib.ListN.{length, take, drop, replicate}
+use lib.ListN.{length, take, replicate}
 use borrow.Author.Tests.{le-ltb}
-use Rattle.rules.specs.Lists.{if◌then◌else◌, overwrite}
+use Rattle.rules.specs.Lists.{overwrite}
 use Rattle.rules.specs.Utf8.{utf8_rules}
 use Rattle.rules.specs.Limits.{barge_line}
 use Rattle.rules.specs.Replies.{Unread, Refusal, reading, Reply, numbered, accepted, is_refused, refused_if, unless, is_too_long, is_malformed}
 use Rattle.rules.specs.Records.{line_size, line_need, token_need, header, Records, recorded, fresh_reading, read_lines}
 use Rattle.rules.specs.Page.{Page, Lent, Sizes, sizes, page_text, page_records, Faithful, header_after, fresh_reply, fresh_lines, fresh_page, FreshPost}
 use Rattle.rules.specs.StopRule.{Edit, edited}
-use Rattle.rules.specs.Edit.{Outcome, late, done, outcome, reply_of, after, EditPost}
+use Rattle.rules.specs.Edit.{Outcome, outcome, reply_of, after, EditPost}
 use Rattle.rules.specs.History.{none, call, text_after, paper_next, paper_text, paper_replies, paper_lent, Proper, Room, LongEnough, Settled, Holds, Demand3From, Demand3}
 use Rattle.rules.proofs.BufferLaws.{length_overwrite, overwrite_take}
 use Rattle.rules.proofs.RecordLaws.{fresh_sizes, fresh_empty}
@@ -137,7 +136,7 @@ list_of_edits h es rs last none = record { replies = refl; lent_is = refl; settl
 list_of_edits {z} {t} {q} h es rs last (call {q = mid} {c = ed} {cs = rest} {r = r} {rs = more} post tail) =
     let o = one-edit z t q ed r mid h post in
     let s : Settled z t ed r (paper_next z t ed) = rw o.0 (settled z t ed (holds_text h) (holds-room h)) in
-    let f = list_of_edits o.2 rest more last tail in
+    let f = list_of_edits {t = paper_next z t ed} {q = mid} o.2 rest more last tail in
     record {
       replies = λ i. o.0 i ∷ f.replies i;
       lent_is = f.lent_is ∙ ap (λ (x : Lent). paper_lent z x (paper_next z t ed) rest) o.1;

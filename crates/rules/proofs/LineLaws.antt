@@ -1,6 +1,6 @@
 -- Laws of the lines of a text.
 -- Assumes nothing.
-use Prim.Native.Nat.{ℕ, zero, suc, ◌+◌, ◌-◌, ◌≤◌, ◌<◌, zero-le, suc-le-suc}
+use Prim.Native.Nat.{ℕ, zero, suc, ◌+◌, ◌≤◌, ◌<◌, zero-le, suc-le-suc}
 use mathlib.Core.Path.{◌≡◌, refl, sym, ap, ◌∙◌}
 use mathlib.Core.Bool.{Bool, true, false, not}
 use mathlib.Core.List.{List, [], ◌∷◌, ◌++◌}
@@ -9,8 +9,8 @@ use native.Mathlib.Nat.{suc-add, zero-add}
 use lib.ListN.{length, get_or, take, drop, length-append, length-drop}
 use lib.Seq.{drop-drop, take-nil, get_or-drop, split_at, take_at, length-take-le}
 use borrow.Author.Tests.{eqb-true, eq-eqb, ne_eqb}
-use lib.Dec.{eqb}
-use Rattle.rules.specs.Lists.{if◌then◌else◌, run}
+use Rattle.std.specs.Prelude.{if◌then◌else◌}
+use Rattle.rules.specs.Lists.{run}
 use Rattle.rules.specs.Reading.{Line, is_lf, onto, lines_of, count_lf, not_lf, content, first_size}
 use Rattle.rules.proofs.ListLaws.{if_by, run_true, run_false}
 

@@ -2,19 +2,19 @@
 -- Assumes nothing.
 use Prim.Native.Nat.{ℕ, zero, suc, ◌+◌, ◌-◌, ◌*◌, ◌≤◌, ◌<◌, suc-le-suc}
 use mathlib.Core.Path.{◌≡◌, refl, sym, ap, ◌∙◌}
-use mathlib.Core.Bool.{Bool, true, false, ◌&&◌}
+use mathlib.Core.Bool.{Bool, true, false}
 use mathlib.Core.List.{List, [], ◌∷◌, ◌++◌, append_assoc, append-nil}
 use native.Mathlib.Omega.{arith}
 use native.Mathlib.Nat.{add-zero, zero-add, add_assoc}
 use lib.ListN.{length, take, drop, length-append, take-append-drop, drop_of_length-le}
 use lib.Seq.{take_at, take-nil, drop-drop, length-take-le, take-append-le, drop-append-le}
-use lib.Dec.{ltb}
 use borrow.Author.Tests.{lt-ltb}
-use Rattle.rules.specs.Lists.{if◌then◌else◌, any, run}
+use Rattle.std.specs.Prelude.{if◌then◌else◌}
+use Rattle.rules.specs.Lists.{any, run}
 use Rattle.rules.specs.Line.{State, initial, Token, Halt, line_reads, line_halts, read_line}
 use Rattle.rules.specs.Reading.{Line, lines_of, content, Entry, entry, Reading, reads, halts, read_from, lines_read, byte_sum, token_sum, state_at, line_at, size_at}
 use Rattle.rules.specs.Limits.{LineLimits}
-use Rattle.rules.specs.Records.{line_size, token_size, line_records, token_records, end_entry, with_end, Records, records_of}
+use Rattle.rules.specs.Records.{line_size, token_size, line_records, token_records, end_entry, with_end, records_of}
 use Rattle.rules.specs.StopRule.{Edit, edited, kept_from, marks_from, same_state, same_mark, is_stop, reread_count, from_line, from_byte, from_state}
 use Rattle.rules.proofs.LineLaws.{total, total-lines, drop_lines, first_size-le, lines_at, content-first}
 use Rattle.rules.proofs.ReadingLaws.{with_entries, and_then, with_entries-reads, with_entries-halts, lines_read_with_entries, read_from_append, read_more, read-halts, parts, read-sizes, byte_sum_append}

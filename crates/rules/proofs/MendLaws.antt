@@ -2,15 +2,16 @@
 -- Assumes nothing.
 use Prim.Native.Nat.{ℕ, suc, ◌+◌, ◌-◌, ◌≤◌, ◌<◌}
 use mathlib.Core.Path.{◌≡◌, refl, sym, ap, ◌∙◌}
-use mathlib.Core.Bool.{Bool, true, false, ◌&&◌, not}
-use mathlib.Core.List.{List, [], ◌∷◌, ◌++◌}
+use mathlib.Core.Bool.{Bool, true, false, not}
+use mathlib.Core.List.{List, [], ◌∷◌}
 use native.Mathlib.Omega.{arith}
 use native.Mathlib.Nat.{zero-add}
 use lib.ListN.{length, take, drop, take-append-drop}
 use lib.Seq.{drop_at, drop-drop, length-take-le}
 use lib.Dec.{ltb}
 use borrow.Author.Tests.{ltb-true, le-ltb}
-use Rattle.rules.specs.Lists.{if◌then◌else◌, any, run}
+use Rattle.std.specs.Prelude.{if◌then◌else◌}
+use Rattle.rules.specs.Lists.{any, run}
 use Rattle.rules.specs.Line.{State, initial, LineReply, line_reads, line_halts, read_line}
 use Rattle.rules.specs.Reading.{Line, lines_of, count_lf, content, Entry, entry, Reading, reads, halts, with_entry, line_then, read_from, lines_read, byte_sum, state_at}
 use Rattle.rules.specs.Limits.{LineLimits, barge_line}

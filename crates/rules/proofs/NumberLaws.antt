@@ -12,7 +12,8 @@ use lib.ListN.{drop}
 use lib.Seq.{drop-drop}
 use borrow.Author.Tests.{leb-true, eqb-true}
 use Rattle.laws.proofs.Below.{at}
-use Rattle.rules.specs.Lists.{if◌then◌else◌, ascii, run, begins}
+use Rattle.std.specs.Prelude.{if◌then◌else◌}
+use Rattle.rules.specs.Lists.{ascii, run, begins}
 use Rattle.rules.specs.Kinds.{num}
 use Rattle.rules.specs.Tables.{is_digit, digit_class, class_of, keywords, signs, table_rules}
 use Rattle.rules.specs.Cut.{Cut, blank, comment, token, in_hex, is_hex, base_of, digits_size, Suffix, no_suffix, i32, u32, suffix_bytes, suffixes, suffix_of, scan_number, number_cut, finding, word_cut, letter_cut, sign_cut, string_cut, cut_by, cut, cut_rules}

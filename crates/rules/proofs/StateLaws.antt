@@ -1,6 +1,6 @@
 -- Equal states, by their fields and by their words.
 -- Assumes nothing.
-use Prim.Native.Nat.{ℕ, suc, ◌+◌, ◌≤◌}
+use Prim.Native.Nat.{ℕ, ◌≤◌}
 use mathlib.Core.Path.{◌≡◌, refl, sym, ◌∙◌}
 use mathlib.Core.Bool.{Bool, true, false, ◌&&◌, beq, false≢true}
 use mathlib.Core.List.{List, [], ◌∷◌, ◌++◌}

@@ -1,19 +1,19 @@
 -- Laws of line starts and of the stop rule.
 -- Assumes nothing.
-use Prim.Native.Nat.{ℕ, zero, suc, ◌+◌, ◌-◌, ◌<◌, suc-le-suc}
+use Prim.Native.Nat.{ℕ, zero, suc, ◌+◌, ◌<◌, suc-le-suc}
 use mathlib.Core.Path.{◌≡◌, refl, sym, ap, ◌∙◌}
-use mathlib.Core.Bool.{Bool, true, false, ◌&&◌, ◌||◌, not, false≢true, or-false}
+use mathlib.Core.Bool.{Bool, true, false, ◌||◌, not, false≢true, or-false}
 use mathlib.Core.List.{List, [], ◌∷◌, ◌++◌}
 use native.Mathlib.Omega.{arith}
 use native.Mathlib.Nat.{add-zero, add_assoc}
 use lib.ListN.{length, take, drop}
-use lib.Dec.{ltb, eqb}
+use lib.Dec.{eqb}
 use borrow.Author.Tests.{eqb-true, eq-eqb, ne_eqb}
 use Rattle.rules.specs.Lists.{any, run}
 use Rattle.rules.specs.Limits.{LineLimits}
 use Rattle.rules.specs.Line.{State, read_line}
 use Rattle.rules.specs.Reading.{Line, lines_of, content, Entry, reads, read_from, byte_sum, state_at}
-use Rattle.rules.specs.StopRule.{Edit, edited, kept_from, Mark, marks_from, same_state, same_mark, is_stop}
+use Rattle.rules.specs.StopRule.{Mark, marks_from, same_state, same_mark}
 use Rattle.rules.proofs.ListLaws.{and-true, run_true, run_false}
 use Rattle.rules.proofs.LineLaws.{next-line, first_some}
 use Rattle.rules.proofs.ReadingLaws.{step}

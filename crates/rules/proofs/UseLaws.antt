@@ -70,9 +70,9 @@ list_of_steps {z} {t} h cs rs last none = (paper z t, none, h)
 list_of_steps {z} {t} {q} h cs rs last (call {q = mid} {c = edit ed} {cs = rest} {r = r} {rs = more} post tail) =
     let o = one-edit z t q ed r mid h post in
     let s : Settled z t ed r (paper_next z t ed) = rw o.0 (settled z t ed (holds_text h) (holds-room h)) in
-    let f = list_of_steps o.2 rest more last tail in
+    let f = list_of_steps {t = paper_next z t ed} {q = mid} o.2 rest more last tail in
     (f.0, call {c = edit ed} (record { reply-is = o.0; settled = s; paper-is = refl }) f.1, f.2)
 list_of_steps {z} {t} {q} h cs rs last (call {q = mid} {c = grow z'} {cs = rest} {r = r} {rs = more} post tail) =
     let g : Holds z' t mid = rw post.1 at (grown-holds h post.2) in
-    let f = list_of_steps g rest more last tail in
+    let f = list_of_steps {z = z'} {t = t} {q = mid} g rest more last tail in
     (f.0, call {c = grow z'} (post.0, refl) f.1, f.2)

@@ -1,8 +1,8 @@
 -- The scalars of a text: `well_formed_prefix` is the length of the longest well-formed prefix.
 -- Assumes nothing.
-use Prim.Native.Nat.{ℕ, zero, suc, ◌+◌, ◌-◌, ◌≤◌, zero-le, suc-le-suc}
+use Prim.Native.Nat.{ℕ, zero, suc, ◌+◌, ◌≤◌, zero-le, suc-le-suc}
 use mathlib.Core.Path.{◌≡◌, refl, sym, ◌∙◌, ap, subst}
-use mathlib.Core.Bool.{Bool, true, false, ◌&&◌, false≢true}
+use mathlib.Core.Bool.{Bool, true, false, false≢true}
 use mathlib.Core.List.{List, [], ◌∷◌, ◌++◌, append-nil, append_assoc}
 use mathlib.Core.Logic.{◌↔◌}
 use mathlib.Core.Option.{Option, none, some}
@@ -10,7 +10,8 @@ use native.Mathlib.Omega.{arith}
 use native.Mathlib.Nat.{suc_inj, le_of_suc-le-suc}
 use lib.ListN.{length, take, drop, length-append, length-drop, take-append-drop}
 use lib.Seq.{drop-append-le, drop_at, drop-drop, length-take-le, take-add, take_all}
-use Rattle.rules.specs.Lists.{if◌then◌else◌, within, concat}
+use Rattle.std.specs.Prelude.{if◌then◌else◌}
+use Rattle.rules.specs.Lists.{within, concat}
 use Rattle.rules.specs.Utf8.{Range, table, following, in_ranges, size_by, scalar_size, WellFormed, nil, scalar, scalar_step, scalars_from, scalars_of, well_formed_prefix}
 use Rattle.rules.proofs.ListLaws.{and_left, and_right}
 

@@ -1,9 +1,9 @@
 -- The value of a byte literal, as `ascii_byte_literal_value` gives it.
 -- Assumes nothing.
-use Rattle.std.specs.Prelude.{ℕ, suc, ◌+◌, ◌-◌, ◌*◌, pred, false, ◌&&◌, not, List, [], ◌∷◌, ltb, eqb, length, take, drop}
+use Rattle.std.specs.Prelude.{ℕ, ◌+◌, ◌-◌, ◌*◌, pred, not, List, [], ◌∷◌, ltb, eqb, length, take, drop, if◌then◌else◌}
 use Prim.Native.Char.{code}
 use Rattle.std.proofs.Math.Option.{Option, none, some}
-use Rattle.rules.specs.Lists.{if◌then◌else◌, within, ascii, elem, begins, last_d}
+use Rattle.rules.specs.Lists.{within, ascii, elem, begins, last_d}
 use Rattle.rules.specs.Tables.{is_digit, is_hex_digit}
 use Rattle.rules.specs.Replies.{Reply, numbered, accepted, first_of, unless, long_test, form_test}
 

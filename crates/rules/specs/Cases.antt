@@ -8,7 +8,7 @@ use Rattle.rules.specs.Kinds.{kind_named}
 use Rattle.rules.specs.Replies.{numbered_unread, accepted}
 use Rattle.rules.specs.Records.{FreshReading, recorded, unread, fresh_reading}
 use Rattle.rules.specs.StopRule.{Edit, edited}
-use Rattle.rules.specs.Edit.{reply_of, late, done, outcome, edit_rules}
+use Rattle.rules.specs.Edit.{reply_of, outcome, edit_rules}
 
 pub record Case : Type 0 where
   pub got : List ℕ

@@ -1,8 +1,8 @@
 -- The panel column of an offset: the scalars before it in its line, plus 1.
 -- Assumes nothing.
-use Rattle.std.specs.Prelude.{ℕ, suc, ◌+◌, Bool, false, not, List, [], ◌∷◌, eqb, length, take}
+use Rattle.std.specs.Prelude.{ℕ, suc, ◌+◌, Bool, not, List, [], ◌∷◌, eqb, length, take, if◌then◌else◌}
 use Rattle.std.proofs.Math.Option.{Option}
-use Rattle.rules.specs.Lists.{if◌then◌else◌, elem}
+use Rattle.rules.specs.Lists.{elem}
 use Rattle.rules.specs.Utf8.{scalars_of}
 use Rattle.rules.specs.Reading.{count_lf}
 use Rattle.rules.specs.Replies.{Refusal, outside, Reply, numbered, accepted, refused_if, first_of, unless, long_test, form_test}

@@ -1,8 +1,8 @@
 -- One token cut at the front of the rest of a line (the line without its LF). A cut at offset `at` is `cut (drop at line)`.
 -- Assumes nothing.
-use Rattle.std.specs.Prelude.{ℕ, suc, ◌+◌, Bool, false, ◌&&◌, ◌||◌, not, List, [], ◌∷◌, ltb, eqb, length, take, drop}
+use Rattle.std.specs.Prelude.{ℕ, suc, ◌+◌, Bool, ◌&&◌, ◌||◌, not, List, [], ◌∷◌, ltb, eqb, length, take, drop, if◌then◌else◌}
 use Prim.Native.Char.{code}
-use Rattle.rules.specs.Lists.{if◌then◌else◌, within, ascii, elem, begins, run, trim_end}
+use Rattle.rules.specs.Lists.{within, ascii, elem, begins, run, trim_end}
 use Rattle.rules.specs.Utf8.{scalar_size, scalar_value}
 use Rattle.rules.specs.Kinds.{num, byte_lit, str}
 use Rattle.rules.specs.Tables.{is_cr, is_digit, is_letter, is_hex_digit, blank_class, hash_class, letter_class, digit_class, quote_class, sign_class, class_of, Spelling, keywords, signs, word_kind, table_rules}

@@ -1,6 +1,6 @@
 -- An edit of a page: its outcome on paper, and the contract.
 -- Assumes nothing.
-use Rattle.std.specs.Prelude.{ℕ, ◌≤◌, ◌≡◌, Bool, false, ◌||◌, not, List, [], ◌∷◌, ◌++◌, ltb, length}
+use Rattle.std.specs.Prelude.{ℕ, ◌≤◌, ◌≡◌, Bool, ◌||◌, not, List, [], ◌∷◌, ◌++◌, ltb, length}
 use Rattle.std.proofs.Math.Option.{Option, none, some}
 use Rattle.rules.specs.Lists.{overwrite}
 use Rattle.rules.specs.Failure.{FailureRecord}

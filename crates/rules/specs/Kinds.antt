@@ -1,8 +1,8 @@
 -- Token kinds: 0 (KwFn) to 92 (Newline), in the order of `TokenKind`.
 -- Assumes nothing.
-use Rattle.std.specs.Prelude.{ℕ, suc, Bool, true, false, List, [], ◌∷◌, ltb, length}
+use Rattle.std.specs.Prelude.{ℕ, suc, Bool, true, false, List, [], ◌∷◌, ltb}
 use Prim.Native.String.{String}
-use Rattle.rules.specs.Lists.{if◌then◌else◌, ascii, same}
+use Rattle.rules.specs.Lists.{ascii, same}
 
 -- a kind's number is its place in this list
 unfoldable pub kind_names : List String

@@ -1,8 +1,8 @@
 -- One line, read from a state. All places are offsets in the line, so that the reading of a line does not depend on where it stands.
 -- Assumes nothing.
-use Rattle.std.specs.Prelude.{ℕ, zero, suc, ◌+◌, ◌-◌, pred, Bool, false, ◌&&◌, ◌||◌, not, List, [], ◌∷◌, ◌++◌, ltb, eqb, length, drop, replicate}
+use Rattle.std.specs.Prelude.{ℕ, zero, suc, ◌+◌, ◌-◌, pred, Bool, false, ◌&&◌, ◌||◌, not, List, [], ◌∷◌, ◌++◌, ltb, eqb, length, drop, replicate, if◌then◌else◌}
 use Prim.Native.Char.{code}
-use Rattle.rules.specs.Lists.{if◌then◌else◌, ascii, begins, run, trim_end, last_d}
+use Rattle.rules.specs.Lists.{ascii, begins, run, trim_end, last_d}
 use Rattle.rules.specs.Kinds.{implies, l_paren, r_paren, indent, dedent, newline}
 use Rattle.rules.specs.Tables.{is_blank}
 use Rattle.rules.specs.Failure.{Failure, failure, bad_indent}

@@ -1,8 +1,7 @@
 -- The number at the front of a text, with digits and suffix told apart (F-1).
 -- Assumes nothing.
-use Rattle.std.specs.Prelude.{ℕ, Bool, false, List, [], ◌∷◌}
+use Rattle.std.specs.Prelude.{ℕ, Bool, false, List, [], ◌∷◌, if◌then◌else◌}
 use Rattle.std.proofs.Math.Option.{Option, none, some}
-use Rattle.rules.specs.Lists.{if◌then◌else◌}
 use Rattle.rules.specs.Tables.{is_digit}
 use Rattle.rules.specs.Cut.{Suffix, no_suffix, fx, i32, u32, f64, Number, scan_number, cut_rules}
 use Rattle.rules.specs.Replies.{Reply, numbered, accepted, first_of, unless, long_test, form_test, reply_rules}

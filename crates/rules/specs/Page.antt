@@ -1,7 +1,7 @@
 -- The page: header and buffers; when it fits and when it is faithful; the fresh page.
 -- Assumes nothing.
-use Rattle.std.specs.Prelude.{ℕ, zero, suc, ◌≡◌, Bool, false, ◌&&◌, List, [], ◌∷◌, leb, ltb, eqb, length, take, replicate}
-use Rattle.rules.specs.Lists.{if◌then◌else◌, same, overwrite}
+use Rattle.std.specs.Prelude.{ℕ, zero, suc, ◌≡◌, Bool, false, ◌&&◌, List, [], ◌∷◌, leb, ltb, length, take, replicate, if◌then◌else◌}
+use Rattle.rules.specs.Lists.{same, overwrite}
 use Rattle.rules.specs.Replies.{Reply, numbered, accepted, lines_buffer, room_test, unless}
 use Rattle.rules.specs.Records.{line_size, line_need, token_need, Header, header, header_words, Records, FreshReading, recorded, unread, fresh_reading, record_rules}
 

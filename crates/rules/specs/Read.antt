@@ -1,6 +1,6 @@
 -- A reading of a text by itself: its reply, and what lines and tokens hold afterwards.
 -- Assumes nothing.
-use Rattle.std.specs.Prelude.{ℕ, List, [], ◌∷◌, length}
+use Rattle.std.specs.Prelude.{ℕ, List, length}
 use Rattle.rules.specs.Lists.{overwrite}
 use Rattle.rules.specs.Replies.{Refusal, reading, Reply, numbered, accepted, first_of, unless}
 use Rattle.rules.specs.Records.{header_words, Records, record_tests, FreshReading, recorded, unread, fresh_reading}

@@ -1,8 +1,8 @@
 -- A text read line by line.
 -- Assumes nothing.
-use Rattle.std.specs.Prelude.{ℕ, zero, suc, ◌+◌, Bool, false, not, List, [], ◌∷◌, ◌++◌, eqb, length, take, drop}
+use Rattle.std.specs.Prelude.{ℕ, zero, suc, ◌+◌, Bool, not, List, [], ◌∷◌, eqb, length, take, drop, if◌then◌else◌}
 use Prim.Native.Char.{code}
-use Rattle.rules.specs.Lists.{if◌then◌else◌, run}
+use Rattle.rules.specs.Lists.{run}
 use Rattle.rules.specs.Limits.{LineLimits}
 use Rattle.rules.specs.Line.{State, Token, Halt, LineReply, line_reads, line_halts, read_line, line_rules}
 

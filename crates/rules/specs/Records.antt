@@ -1,8 +1,8 @@
 -- The records of a text, and its fresh reading.
 -- Assumes nothing.
-use Rattle.std.specs.Prelude.{ℕ, suc, ◌+◌, ◌*◌, ◌≡◌, false, List, [], ◌∷◌, ◌++◌, length, take, replicate}
+use Rattle.std.specs.Prelude.{ℕ, suc, ◌+◌, ◌*◌, ◌≡◌, List, [], ◌∷◌, ◌++◌, length, take, replicate, if◌then◌else◌}
 use Rattle.std.proofs.Math.Option.{Option}
-use Rattle.rules.specs.Lists.{if◌then◌else◌, bit}
+use Rattle.rules.specs.Lists.{bit}
 use Rattle.rules.specs.Failure.{failure_record}
 use Rattle.rules.specs.Line.{State, initial, Token, dedents, Halt, failed, over_limit}
 use Rattle.rules.specs.Reading.{lines_of, Entry, entry, Reading, reads, halts, read_from, byte_sum, token_sum, reading_rules}

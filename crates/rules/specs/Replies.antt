@@ -1,8 +1,7 @@
 -- Replies: 0 and the values of an acceptance, or the document's number and values of a refusal.
 -- Assumes nothing.
-use Rattle.std.specs.Prelude.{ℕ, zero, suc, min, Bool, true, false, List, [], ◌∷◌, ltb, length}
+use Rattle.std.specs.Prelude.{ℕ, zero, suc, min, Bool, true, false, List, [], ◌∷◌, ltb, length, if◌then◌else◌}
 use Rattle.std.proofs.Math.Option.{Option, none, some}
-use Rattle.rules.specs.Lists.{if◌then◌else◌}
 use Rattle.rules.specs.Utf8.{well_formed_prefix}
 use Rattle.rules.specs.Failure.{FailureRecord}
 use Rattle.rules.specs.Limits.{Limits, barge}

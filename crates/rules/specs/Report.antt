@@ -1,8 +1,8 @@
 -- Report: the failure's message, as `fmt_mark_error` writes it.
 -- Assumes nothing.
-use Rattle.std.specs.Prelude.{ℕ, zero, suc, ◌+◌, ◌-◌, ◌/◌, ◌%◌, pred, true, false, List, [], ◌∷◌, ◌++◌, ltb, length, drop, replicate}
+use Rattle.std.specs.Prelude.{ℕ, zero, suc, ◌+◌, ◌-◌, ◌/◌, ◌%◌, pred, true, false, List, [], ◌∷◌, ◌++◌, ltb, length, drop, replicate, if◌then◌else◌}
 use Prim.Native.Char.{code}
-use Rattle.rules.specs.Lists.{if◌then◌else◌, ascii, concat, overwrite}
+use Rattle.rules.specs.Lists.{ascii, concat, overwrite}
 use Rattle.rules.specs.Utf8.{encode}
 use Rattle.rules.specs.Failure.{Shows, nothing, scalar, hex_digits, Detail, detail_of, FailureRecord}
 use Rattle.rules.specs.Reading.{content}

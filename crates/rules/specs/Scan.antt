@@ -1,9 +1,9 @@
 -- What the program `scan` prints for the bytes of its input.
 -- Assumes nothing.
-use Rattle.std.specs.Prelude.{ℕ, zero, suc, false, List, [], ◌∷◌, ◌++◌, ltb, length, get_or, drop}
-use Rattle.rules.specs.Lists.{if◌then◌else◌, ascii, concat}
+use Rattle.std.specs.Prelude.{ℕ, zero, suc, List, [], ◌∷◌, ◌++◌, ltb, length, get_or, drop, if◌then◌else◌}
+use Rattle.rules.specs.Lists.{ascii, concat}
 use Rattle.rules.specs.Replies.{too_long, malformed, lexical, at_line}
-use Rattle.rules.specs.Records.{token_size, Header, Records, FreshReading, recorded, unread, fresh_reading}
+use Rattle.rules.specs.Records.{token_size, Header, FreshReading, recorded, unread, fresh_reading}
 use Rattle.rules.specs.Report.{decimal, message}
 
 -- the most bytes that it reads

@@ -1,11 +1,11 @@
 -- What holds of every entry of a table, computed over the table.
 -- Assumes nothing.
-use Rattle.std.specs.Prelude.{ℕ, zero, suc, ◌+◌, pred, ◌≡◌, refl, Bool, true, false, ◌&&◌, ◌||◌, not, List, [], ◌∷◌, ◌++◌, map, leb, ltb, eqb, length, get_or, take, drop}
+use Rattle.std.specs.Prelude.{ℕ, zero, suc, pred, ◌≡◌, refl, Bool, true, false, ◌&&◌, ◌||◌, not, List, [], ◌∷◌, ◌++◌, map, leb, ltb, eqb, length, get_or, if◌then◌else◌}
 use Prim.Native.String.{String}
 use Prim.Native.Char.{code}
 use Rattle.std.specs.Bool.{beq}
 use Rattle.std.proofs.Math.Option.{Option, none, some}
-use Rattle.rules.specs.Lists.{if◌then◌else◌, within, ascii, any, every, elem, same}
+use Rattle.rules.specs.Lists.{within, ascii, any, every, elem, same}
 use Rattle.rules.specs.Utf8.{Range, Row, table, following, scalar_value, leading_ones}
 use Rattle.rules.specs.Kinds.{kind_names, kind_named, ident, num, byte_lit, str, implies, l_paren, r_paren, indent, dedent, newline}
 use Rattle.rules.specs.Tables.{Spelling, keywords, signs, is_sign, class_of, word_kind, table_rules}

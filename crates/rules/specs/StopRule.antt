@@ -1,6 +1,6 @@
 -- The edited text, and how many lines are read again.
 -- Assumes nothing.
-use Rattle.std.specs.Prelude.{ℕ, ◌+◌, ◌-◌, Bool, false, ◌&&◌, not, List, [], ◌∷◌, ◌++◌, ltb, eqb, length, take, drop}
+use Rattle.std.specs.Prelude.{ℕ, ◌+◌, ◌-◌, Bool, ◌&&◌, not, List, [], ◌∷◌, ◌++◌, ltb, eqb, length, take, drop}
 use Rattle.std.specs.Bool.{beq}
 use Rattle.rules.specs.Lists.{any, run, same, list_rules}
 use Rattle.rules.specs.Limits.{LineLimits}

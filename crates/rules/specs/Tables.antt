@@ -1,9 +1,9 @@
 -- Byte classes, keyword spellings and signs.
 -- Assumes nothing.
-use Rattle.std.specs.Prelude.{ℕ, Bool, true, false, ◌&&◌, ◌||◌, List, [], ◌∷◌, eqb}
+use Rattle.std.specs.Prelude.{ℕ, Bool, ◌||◌, List, [], ◌∷◌, eqb, if◌then◌else◌}
 use Prim.Native.String.{String}
 use Prim.Native.Char.{code}
-use Rattle.rules.specs.Lists.{if◌then◌else◌, within, ascii, elem, same}
+use Rattle.rules.specs.Lists.{within, ascii, elem, same}
 use Rattle.rules.specs.Utf8.{utf8_rules}
 use Rattle.rules.specs.Kinds.{kind_names, place_in, kind_named, is_kind, ident}
 

@@ -1,8 +1,8 @@
 -- The text of a token: a part of the page's text or of the names, chosen by its kind.
 -- Assumes nothing.
-use Rattle.std.specs.Prelude.{ℕ, ◌+◌, ◌*◌, Bool, false, ◌||◌, not, List, [], ◌∷◌, ◌++◌, leb, ltb, eqb, length, get_or, take, drop}
+use Rattle.std.specs.Prelude.{ℕ, ◌+◌, ◌*◌, Bool, ◌||◌, not, List, [], ◌∷◌, ◌++◌, leb, ltb, eqb, length, get_or, take, drop, if◌then◌else◌}
 use Rattle.std.proofs.Math.Option.{Option}
-use Rattle.rules.specs.Lists.{if◌then◌else◌, ascii}
+use Rattle.rules.specs.Lists.{ascii}
 use Rattle.rules.specs.Kinds.{is_kind, indent, dedent, newline}
 use Rattle.rules.specs.Replies.{Refusal, outside, unfit, Reply, numbered, accepted, text_buffer, names_buffer, refused_if, first_of, unless, room_test}
 use Rattle.rules.specs.Records.{token_size}

@@ -1,7 +1,6 @@
 -- A token walk: it holds the token words and the next token's number.
 -- Assumes nothing.
-use Rattle.std.specs.Prelude.{ℕ, suc, ◌+◌, ◌*◌, Bool, false, List, [], ◌∷◌, ltb, length, take, drop}
-use Rattle.rules.specs.Lists.{if◌then◌else◌}
+use Rattle.std.specs.Prelude.{ℕ, suc, ◌+◌, ◌*◌, Bool, List, [], ◌∷◌, ltb, length, take, drop, if◌then◌else◌}
 use Rattle.rules.specs.Replies.{Reply, accepted}
 use Rattle.rules.specs.Records.{token_size}
 

@@ -1,1 +1,2 @@
 // The rules of the script page are definitions, in specs/, and theorems, in proofs/. This crate has no code.
+#![tactic(auto)]
