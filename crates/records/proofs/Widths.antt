@@ -37,6 +37,9 @@ module _ (widths : List ℕ) (levels i : ℕ) (wide : length widths ≡ max_leve
       ∙ ap (λ (j : ℕ). get_or (take levels widths ++ replicate width_words 0) j 0) e
       ∙ get_or-append-add (take levels widths) (replicate width_words 0) (i - levels) 0 ∙ get_or_zeros width_words (i - levels))
 
+-- each word of the widths, for `grind`
+pub ruleset width_words_read = (width_open, width-none)
+
 -- as many words over a buffer are the buffer
 pub sets_whole : (l vs : List ℕ) → length vs ≡ length l → sets l 0 vs ≡ vs
 sets_whole l vs h =

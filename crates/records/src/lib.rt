@@ -1,4 +1,6 @@
 // The words of a token record and of a line record: put, loaded and compared.
+#![tactic(auto)]
+
 ghost use Rattle.std.specs.Prelude.{◌≡◌, true, [], ◌∷◌, ◌+◌, ◌*◌, ◌≤◌, ◌<◌, length, get_or, take, drop};
 ghost use Rattle.std.proofs.lemmas.List.Edits.{sets};
 ghost use Rattle.laws.specs.Puts.{put_if};
@@ -18,7 +20,7 @@ pub const LINE: usize = 21;
 pub const TOKEN: usize = 5;
 
 // The state before a line; the widths of its open levels stand beside it, outermost first.
-#[derive(Drop)]
+#[derive(Clone, Copy)]
 pub struct State {
     pub depth: u32,
     pub arrow: bool,
@@ -26,7 +28,7 @@ pub struct State {
 }
 
 // Where the records of a line go: whether the pass writes them, the numbers of its line record and of its first token record, and its start.
-#[derive(Drop)]
+#[derive(Clone, Copy)]
 pub struct Place {
     pub write: bool,
     pub line: usize,
@@ -102,6 +104,7 @@ pub fn same_token(tokens: &[u32], place: Place, n: usize, kind: u32, offset: u32
 }
 
 // The width of level i, 0 past the open ones.
+#[tactic(auto, using(crate::proofs::Widths::width_words_read))]
 fn width_at(widths: &[u32], levels: usize, i: usize) -> u32
     requires { (length widths.now ≡ max_levels) × ((levels ≤ max_levels) × (i < max_levels)) }
     ensures { result ≡ get_or (packed (take levels widths.now)) i 0 }

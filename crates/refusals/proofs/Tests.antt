@@ -8,7 +8,7 @@ use mathlib.Core.Option.{Option}
 use native.Mathlib.Omega.{arith}
 use lib.ListN.{length}
 use borrow.Author.Tests.{ltb-false}
-use Rattle.rules.specs.Lists.{if◌then◌else◌}
+use Rattle.std.specs.Prelude.{if◌then◌else◌}
 use Rattle.rules.specs.Limits.{Limits, barge}
 use Rattle.rules.specs.Replies as RulesReplies
 use Rattle.rules.specs.Replies.{too_long, malformed, lexical, at_line, Refusal, Reply, numbered_unread, numbered, refused_if, first_of, unless, is_too_long, too_long_by, is_malformed, malformed_by, long_test, form_test}

@@ -1,7 +1,6 @@
 -- Why a text by itself is refused: the type of the code and that of the rules.
 -- Assumes nothing.
-use Rattle.std.specs.Prelude.{ℕ, List}
-use Rattle.rules.specs.Lists.{if◌then◌else◌}
+use Rattle.std.specs.Prelude.{ℕ, List, if◌then◌else◌}
 use Rattle.rules.specs.Failure as RulesFailure
 use Rattle.rules.specs.Limits.{Limits}
 use Rattle.rules.specs.Replies as RulesReplies

@@ -1,18 +1,20 @@
 // What a text and its lines are held to, and why a text by itself is refused.
+#![tactic(auto)]
+
 ghost use Rattle.std.specs.Prelude.{◌≡◌};
 ghost use Rattle.rules.specs.Limits.{barge};
 ghost use Rattle.refusals.specs.Limits.{limits_of};
 ghost use Rattle.refusals.specs.Unreads.{test_of};
 
 // What a line is held to: so many open levels, and the number of the refusal of one more.
-#[derive(Drop)]
+#[derive(Clone, Copy)]
 pub struct LineLimits {
     pub levels: usize,
     pub deep: u32,
 }
 
 // What a text is held to: so many bytes, the number of the refusal of a longer one, and what its lines are held to.
-#[derive(Drop)]
+#[derive(Clone, Copy)]
 pub struct Limits {
     pub bytes: usize,
     pub long: u32,
@@ -34,7 +36,7 @@ pub fn barge_limits() -> Limits
 }
 
 // A failure's record.
-#[derive(Drop)]
+#[derive(Clone, Copy)]
 pub struct FailureRecord {
     pub code: u32,
     pub detail: u32,
@@ -48,7 +50,7 @@ pub struct FailureRecord {
 
 // Why a text by itself is refused: it is too long, with the refusal's number and the length; it is not well-formed, with its longest
 // well-formed prefix; its first failure; or a line beyond a limit, with the refusal's number and the line's.
-#[derive(Drop)]
+#[derive(Clone, Copy)]
 pub enum Unread {
     TooLong(u32, usize),
     Malformed(usize),
@@ -57,13 +59,14 @@ pub enum Unread {
 }
 
 // What the tests 1 and 2 give, which come before the lines are read.
-#[derive(Drop)]
+#[derive(Clone, Copy)]
 pub enum TextTest {
     Passes,
     Refused(Unread),
 }
 
 // A text is neither too long nor malformed.
+#[tactic(auto, using(std::proofs::lemmas::Bool::Decides::nat_tests), unfolding(rules::specs::Replies::is_too_long, rules::specs::Replies::too_long_by, rules::specs::Replies::is_malformed, rules::specs::Replies::malformed_by))]
 pub fn test_text(limits: Limits, text: &[u8]) -> TextTest
     ensures { result ≡ test_of (limits_of limits) text.now }
 {

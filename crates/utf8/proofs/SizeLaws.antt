@@ -11,7 +11,8 @@ use lib.ListN.{length, get_or, drop, drop_of_length-le, length-drop}
 use lib.Seq.{drop-cons, drop-drop}
 use borrow.Author.Tests.{leb-true, leb-false, le-leb, lt-leb, not-true, not-false}
 use Rattle.laws.proofs.Below.{entry}
-use Rattle.rules.specs.Lists.{if◌then◌else◌, within, run}
+use Rattle.std.specs.Prelude.{if◌then◌else◌}
+use Rattle.rules.specs.Lists.{within, run}
 use Rattle.rules.specs.Utf8.{Range, ◌to◌, continuation, table, following, in_ranges, size_by, scalar_size, bits_of, leading_ones}
 use Rattle.rules.proofs.Utf8Laws.{size-le}
 use Rattle.utf8.specs.Second.{lowest, highest}

@@ -1,7 +1,6 @@
 -- The range of a scalar's second byte, by its first byte (the Unicode Standard, Table 3-7).
 -- Assumes nothing.
-use Rattle.std.specs.Prelude.{ℕ, ltb, eqb}
-use Rattle.rules.specs.Lists.{if◌then◌else◌}
+use Rattle.std.specs.Prelude.{ℕ, ltb, eqb, if◌then◌else◌}
 
 -- above every second byte where the first begins no scalar of two bytes or more
 unfoldable pub lowest : ℕ → ℕ

@@ -1,4 +1,6 @@
 // UTF-8, by the Unicode Standard, Table 3-7: the scalar at a byte of a text, and the longest well-formed prefix.
+#![tactic(auto)]
+
 ghost use Rattle.std.specs.Prelude.{[], ◌∷◌, ◌≡◌, ◌+◌, ◌*◌, ◌%◌, ◌≤◌, ◌<◌, length, drop};
 ghost use Rattle.rules.specs.Utf8.{◌to◌, in_ranges, leading_ones, scalar_size, scalar_value, well_formed_prefix};
 ghost use Rattle.utf8.specs.Second.{lowest, highest};
@@ -16,6 +18,7 @@ fn leading_ones(b: u8) -> u32
 }
 
 // The lowest second byte after `first`; above every second byte where `first` begins no scalar of two bytes or more.
+#[tactic(auto, using(std::proofs::lemmas::Bool::Decides::nat_tests), unfolding(crate::specs::Second::lowest))]
 fn lowest_second(first: u8) -> u8
     ensures { result ≡ lowest first }
 {

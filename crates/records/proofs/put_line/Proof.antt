@@ -15,11 +15,11 @@ use Rattle.records.proofs.LineRecords.{record_words}
 use Rattle.records.proofs.put_line.Statement.{statement}
 use Rattle.records.proofs.put_line.Tie as tie
 
-returns : tie.Need-returns
-returns c = let w : c.before.before.before.before.args.place.write ≡ false = not-true _ c.if1.true in rw w
+returns : tie.Need-returns-then-not-place
+returns c = let w : c.before.before.before.before.args.place.write ≡ false = not-true _ c.if-not-place.true in rw w
 
 -- The pass writes.
-module _ (e : tie.Else1) where
+module _ (e : tie.Else-not-place) where
   abbrev called : tie.Start
   called = e.before.before.before.before
 
@@ -30,57 +30,57 @@ module _ (e : tie.Else1) where
   at = line_size * place.line
 
   writes : place.write ≡ true
-  writes = not-false _ e.if1.left
+  writes = not-false _ e.if-not-place.false
 
   room : at + line_size ≤ length called.args.lines.now
-  room = called.pre.1 writes
+  room = called.requires.1 writes
 
 -- The five words are put.
-module _ (f : tie.After-put-five) where
-  abbrev writing : tie.Else1
+module _ (f : tie.After-put_five) where
+  abbrev writing : tie.Else-not-place
   writing = f.before.before.before.before.before.before
 
-  long : length f.put_five.last.0 ≡ length (called writing).args.lines.now
-  long = f.put_five.kept.0
+  long : length f.put_five.new.words ≡ length (called writing).args.lines.now
+  long = f.put_five.auto.words
 
-mul_at : tie.Need-overflow-mul-at
-mul_at c = let e = c.before in omega (arith, room e, (called e).well-formed)
+mul_at : tie.Need-overflow_mul-at
+mul_at c = let e = c.before in omega (arith, room e, (called e).well_formed)
 
-cast-put-five : tie.Need-overflow-cast-put-five
+cast-put-five : tie.Need-overflow_cast-place
 cast-put-five c = search rules
 
-cast-put-five-2 : tie.Need-overflow-cast-put-five-2
+cast-put-five-2 : tie.Need-overflow_cast-s
 cast-put-five-2 c = search rules
 
-cast-put-five-3 : tie.Need-overflow-cast-put-five-3
+cast-put-five-3 : tie.Need-overflow_cast-s-2
 cast-put-five-3 c = search rules
 
-put-five-requires : tie.Need-put-five-requires
+put-five-requires : tie.Need-put_five-requires
 put-five-requires c κs = omega (arith, room c.before.before.before.before.before)
 
-add-put-widths : tie.Need-overflow-add-put-widths
-add-put-widths c = let e = writing c.before.before.before in omega (arith, room e, (called e).good)
+add-put-widths : tie.Need-overflow_add-at
+add-put-widths c = let e = writing c.before.before.before in omega (arith, room e, (called e).well_formed)
 
-put-widths-requires : tie.Need-put-widths-requires
+put-widths-requires : tie.Need-put_widths-requires
 put-widths-requires c κs =
     let f = c.before.before.before in
-    let p = (called (writing f)).pre.0 in
+    let p = (called (writing f)).requires.0 in
     (p.0, (p.1.0, omega (arith, room (writing f), long f)))
 
-same_length : tie.Need-same-length
+same_length : tie.Need-shape_of-lines
 same_length c = search rules
 
-returns-2 : tie.Need-returns-2
+returns-2 : tie.Need-returns
 returns-2 c =
     let f = c.before.before.before.before.before.before in
     let e = writing f in
     let a = (called e).args in
-    rw (writes e) (c.before.before.put-widths.ensures
+    rw (writes e) (c.before.before.put_widths.ensures
     ∙ ap (λ (l : List ℕ). sets l (at e + 5) (packed (take a.s.levels a.widths.now))) f.put_five.ensures
-    ∙ record_words a.lines.now (at e) (place e).start (place e).first a.s a.widths.now (called e).pre.0.0 (called e).pre.0.1.0)
+    ∙ record_words a.lines.now (at e) (place e).start (place e).first a.s a.widths.now (called e).requires.0.0 (called e).requires.0.1.0)
 
-pub put-line-spec : {M : Type 1} → statement M
-put-line-spec =
+pub put_line_spec : {M : Type 1} → statement M
+put_line_spec =
     tie.close
     (tie.spec
     returns

@@ -12,11 +12,11 @@ use Rattle.records.specs.declared.Place.{Place}
 use Rattle.records.proofs.put_token.Statement.{statement}
 use Rattle.records.proofs.put_token.Tie as tie
 
-returns : tie.Need-returns
-returns c = let w : c.before.before.before.args.place.write ≡ false = not-true _ c.if1.true in rw w
+returns : tie.Need-returns-then-not-place
+returns c = let w : c.before.before.before.args.place.write ≡ false = not-true _ c.if-not-place.true in rw w
 
 -- The pass writes.
-module _ (e : tie.Else1) where
+module _ (e : tie.Else-not-place) where
   abbrev called : tie.Start
   called = e.before.before.before
 
@@ -24,40 +24,40 @@ module _ (e : tie.Else1) where
   place = called.args.place
 
   writes : place.write ≡ true
-  writes = not-false _ e.if1.left
+  writes = not-false _ e.if-not-place.false
 
   room : token_size * (place.first + called.args.n) + token_size ≤ length called.args.tokens.now
-  room = called.pre.1 writes
+  room = called.requires.1 writes
 
-add_at : tie.Need-overflow-add-at
-add_at c = omega (arith, room c.before, (called c.before).good)
+add_at : tie.Need-overflow_add-at
+add_at c = omega (arith, room c.before, (called c.before).well_formed)
 
-mul_at : tie.Need-overflow-mul-at
-mul_at c = omega (arith, room c.before, (called c.before).good)
+mul_at : tie.Need-overflow_mul-at
+mul_at c = omega (arith, room c.before, (called c.before).well_formed)
 
-add-position : tie.Need-overflow-add-position
-add-position c = omega (arith, (called c.before.before).pre.0.0)
+add-position : tie.Need-overflow_add-position
+add-position c = omega (arith, (called c.before.before).requires.0.0)
 
-cast-number : tie.Need-overflow-cast-number
-cast-number c = omega (arith, (called c.before.before.before).pre.0.1)
+cast-number : tie.Need-overflow_cast-number
+cast-number c = omega (arith, (called c.before.before.before).requires.0.1)
 
-add-number : tie.Need-overflow-add-number
-add-number c = omega (arith, (called c.before.before.before).pre.0.1)
+add-number : tie.Need-overflow_add-number
+add-number c = omega (arith, (called c.before.before.before).requires.0.1)
 
-add-column : tie.Need-overflow-add-column
-add-column c = omega (arith, (called c.before.before.before).pre.0.0)
+add-column : tie.Need-overflow_add-column
+add-column c = omega (arith, (called c.before.before.before).requires.0.0)
 
-put-five-requires : tie.Need-put-five-requires
+put-five-requires : tie.Need-put_five-requires
 put-five-requires c κs = omega (arith, room c.before.before.before.before)
 
-same_length : tie.Need-same-length
+same_length : tie.Need-shape_of-tokens
 same_length c = search rules
 
-returns-2 : tie.Need-returns-2
+returns-2 : tie.Need-returns
 returns-2 c = rw (writes c.before.before.before.before.before.before.before) c.before.before.put_five.ensures
 
-pub put-token-spec : {M : Type 1} → statement M
-put-token-spec =
+pub put_token_spec : {M : Type 1} → statement M
+put_token_spec =
     tie.close
     (tie.spec
     returns

@@ -13,75 +13,75 @@ use Rattle.rules.proofs.BeginsLaws.{begins-more, begins-other, begins-all}
 use Rattle.records.proofs.same_widths.Statement.{statement}
 use Rattle.records.proofs.same_widths.Tie as tie
 
-abbrev invariant-loop : tie.invariant-loop
+abbrev invariant-loop : tie.invariant-loop-i
 invariant-loop lines at widths levels i₀ i = (i ≤ width_words) × (begins (drop i (packed (take levels widths))) (drop (at + i) lines) ≡ begins (packed (take levels widths)) (drop at lines))
 
-abbrev decreases-loop : tie.decreases-loop
+abbrev decreases-loop : tie.decreases-loop-i
 decreases-loop lines at widths levels i₀ i = width_words - i
 
 -- The widths that the record is compared with.
-module _ (l : tie.At-loop invariant-loop decreases-loop) where
+module _ (l : tie.At-loop-i invariant-loop decreases-loop) where
   abbrev s : tie.Start invariant-loop decreases-loop
   s = l.before.before.before
 
   abbrev levels : List ℕ
   levels = take s.args.levels s.args.widths.now
 
-  some : l.loop.i < width_words → l.loop.i < length (packed levels)
+  some : l.loop-i.i < width_words → l.loop-i.i < length (packed levels)
   some h = omega (arith, length_packed levels)
 
-  room : l.loop.i < width_words → s.args.at + l.loop.i < length s.args.lines.now
-  room h = omega (arith, s.pre.1.1)
+  room : l.loop-i.i < width_words → s.args.at + l.loop-i.i < length s.args.lines.now
+  room h = omega (arith, s.requires.1.1)
 
-loop-holds : tie.Need-loop-init invariant-loop decreases-loop
+loop-holds : tie.Need-loop-i-init invariant-loop decreases-loop
 loop-holds c = (omega arith, rw add-zero)
 
-width-at-requires : tie.Need-width-at-requires invariant-loop decreases-loop
+width-at-requires : tie.Need-width_at-requires invariant-loop decreases-loop
 width-at-requires c κs =
-    let p = (s c.before).pre in
-    (p.0, (p.1.0, c.loop-test.true))
+    let p = (s c.before).requires in
+    (p.0, (p.1.0, c.loop-i-test.true))
 
-add-if1 : tie.Need-overflow-add-if1 invariant-loop decreases-loop
+add-if1 : tie.Need-overflow_add-at invariant-loop decreases-loop
 add-if1 c = omega arith
 
-mul-if1 : tie.Need-overflow-mul-if1 invariant-loop decreases-loop
+mul-if1 : tie.Need-offset_bounds-lines-at invariant-loop decreases-loop
 mul-if1 c = omega arith
 
-shared-slice-read-if1 : tie.Need-shared-slice-read-if1 invariant-loop decreases-loop
-shared-slice-read-if1 c = room c.before.before.before c.before.before.loop-test.true
+shared-slice-read-if1 : tie.Need-bounds-lines-at invariant-loop decreases-loop
+shared-slice-read-if1 c = room c.before.before.before c.before.before.loop-i-test.true
 
-returns : tie.Need-returns invariant-loop decreases-loop
+returns : tie.Need-returns-then-width_at-lines invariant-loop decreases-loop
 returns c =
     let t = c.before.before.before in
     let l = t.before in
     let a = (s l).args in
-    sym (begins-other (packed (levels l)) a.lines.now a.at l.loop.i (some l t.loop-test.true) (room l t.loop-test.true)
-    (λ e. c.if1.true (c.before.before.width-at.ensures ∙ sym e))) ∙ l.loop.invariant.1
+    sym (begins-other (packed (levels l)) a.lines.now a.at l.loop-i.i (some l t.loop-i-test.true) (room l t.loop-i-test.true)
+    (λ e. c.if-width_at-lines.true (c.before.before.width_at.ensures ∙ sym e))) ∙ l.loop-i.invariant.1
 
-add-i : tie.Need-overflow-add-i invariant-loop decreases-loop
+add-i : tie.Need-overflow_add-i invariant-loop decreases-loop
 add-i c = omega arith
 
-loop-less : tie.Need-loop-smaller invariant-loop decreases-loop
+loop-less : tie.Need-loop-i-smaller invariant-loop decreases-loop
 loop-less c = omega arith
 
-loop-again : tie.Need-loop-preserved invariant-loop decreases-loop
+loop-again : tie.Need-loop-i-preserved invariant-loop decreases-loop
 loop-again c =
     let t = c.before.before.before in
     let l = t.before in
     let a = (s l).args in (
       omega arith,
-      sym (begins-more (packed (levels l)) a.lines.now a.at l.loop.i (some l t.loop-test.true) (room l t.loop-test.true)
-          (sym c.if1.false ∙ c.before.before.width-at.ensures)) ∙ l.loop.invariant.1,
+      sym (begins-more (packed (levels l)) a.lines.now a.at l.loop-i.i (some l t.loop-i-test.true) (room l t.loop-i-test.true)
+          (sym c.if-width_at-lines.false ∙ c.before.before.width_at.ensures)) ∙ l.loop-i.invariant.1,
     )
 
-returns-2 : tie.Need-returns-2 invariant-loop decreases-loop
+returns-2 : tie.Need-returns invariant-loop decreases-loop
 returns-2 c =
     let l = c.before in
     let a = (s l).args in
-    sym (begins-all (packed (levels l)) (drop (a.at + l.loop.i) a.lines.now) l.loop.i (omega (arith, length_packed (levels l)))) ∙ l.loop.invariant.1
+    sym (begins-all (packed (levels l)) (drop (a.at + l.loop-i.i) a.lines.now) l.loop-i.i (omega (arith, length_packed (levels l)))) ∙ l.loop-i.invariant.1
 
-pub same-widths-spec : {M : Type 1} → statement M
-same-widths-spec =
+pub same_widths_spec : {M : Type 1} → statement M
+same_widths_spec =
     tie.close
     (tie.spec
     invariant-loop
