@@ -1,7 +1,7 @@
 -- A comment or a sign, a number with its scan, and cuts with the kinds of words or without.
 -- Assumes nothing.
-use Rattle.std.specs.Prelude.{ℕ, ◌≡◌, Bool, true, false, List, ltb}
-use Rattle.rules.specs.Lists.{if◌then◌else◌, ascii, begins}
+use Rattle.std.specs.Prelude.{ℕ, ◌≡◌, Bool, true, false, List, ltb, if◌then◌else◌}
+use Rattle.rules.specs.Lists.{ascii, begins}
 use Rattle.rules.specs.Kinds.{ident, num}
 use Rattle.rules.specs.Tables.{signs}
 use Rattle.rules.specs.Cut as RulesCut

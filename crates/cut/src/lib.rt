@@ -1,4 +1,6 @@
 // The cutters of a line: each starts in the middle of the line that is lent to it.
+#![tactic(auto)]
+
 ghost use Rattle.std.specs.Prelude.{◌≡◌, ◌-◌, ◌≤◌, ◌<◌, length, drop, take};
 ghost use Rattle.rules.specs.Lists.{ascii, begins};
 ghost use Rattle.rules.specs.Tables.{keywords, word_kind};
@@ -36,6 +38,7 @@ fn word_cut(tables: &[u8; tables::SIZE], line: &[u8], at: usize, named: bool) ->
 }
 
 // `b'` stands at `at`; only a `b` is looked behind.
+#[tactic(auto, using(crate::proofs::Fronts::no_literal))]
 pub fn begins_literal(line: &[u8], at: usize) -> bool
     requires { at < length line.now }
     ensures { result ≡ begins (ascii "b'") (drop at line.now) }

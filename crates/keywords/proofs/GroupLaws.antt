@@ -5,7 +5,8 @@ use mathlib.Core.Path.{◌≡◌, refl, sym, ap, ◌∙◌}
 use mathlib.Core.Bool.{Bool, true, false}
 use mathlib.Core.List.{List, [], ◌∷◌}
 use borrow.Author.Tests.{eqb-false}
-use Rattle.rules.specs.Lists.{if◌then◌else◌, same}
+use Rattle.std.specs.Prelude.{if◌then◌else◌}
+use Rattle.rules.specs.Lists.{same}
 use Rattle.rules.specs.Tables.{Spelling, word_kind}
 use Rattle.rules.proofs.StateLaws.{same_true}
 use Rattle.tables.specs.Keywords.{keep, only, letter_of, of_letter}

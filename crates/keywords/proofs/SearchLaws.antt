@@ -10,7 +10,8 @@ use native.Mathlib.Nat.{add-zero}
 use lib.ListN.{length, get_or, take, drop, length-drop}
 use lib.Seq.{drop-cons, length-take-le}
 use borrow.Author.Tests.{eq-eqb, ne_eqb}
-use Rattle.rules.specs.Lists.{if◌then◌else◌, begins, same}
+use Rattle.std.specs.Prelude.{if◌then◌else◌}
+use Rattle.rules.specs.Lists.{begins, same}
 use Rattle.rules.specs.Kinds.{ident}
 use Rattle.rules.specs.Tables.{word_kind}
 use Rattle.keywords.specs.Rows.{row_at, rows_from}

@@ -1,4 +1,6 @@
 // The search through the spellings of keywords, by the lent tables.
+#![tactic(auto)]
+
 ghost use Rattle.std.specs.Prelude.{◌≡◌};
 ghost use Rattle.rules.specs.Tables.{keywords, word_kind};
 ghost use Rattle.tables.specs.All.{all_tables};

@@ -9,7 +9,8 @@ use lib.Dec.{leb}
 use lib.ListN.{length, get_or, drop, drop_of_length-le}
 use lib.Seq.{drop-cons}
 use borrow.Author.Tests.{eq-eqb, ne_eqb, le-leb, lt-leb, leb-true, lt-ltb, le-ltb}
-use Rattle.rules.specs.Lists.{if◌then◌else◌, within, ascii, elem}
+use Rattle.std.specs.Prelude.{if◌then◌else◌}
+use Rattle.rules.specs.Lists.{within, ascii, elem}
 use Rattle.rules.proofs.ListLaws.{and-true}
 use Rattle.rules.specs.Kinds.{byte_lit}
 use Rattle.rules.specs.Tables.{is_digit, is_hex_digit}

@@ -9,7 +9,8 @@ use lib.Dec.{ltb, eqb}
 use lib.ListN.{length, take}
 use lib.Seq.{take-nil}
 use borrow.Author.Tests.{eqb-true}
-use Rattle.rules.specs.Lists.{if◌then◌else◌, within, ascii, elem, trimmed, trim_end}
+use Rattle.std.specs.Prelude.{if◌then◌else◌}
+use Rattle.rules.specs.Lists.{within, ascii, elem, trimmed, trim_end}
 use Rattle.rules.specs.Tables.{is_cr, is_digit, is_hex_digit}
 use Rattle.rules.specs.Failure.{Failure}
 use Rattle.rules.specs.Cut.{Cut, token, fails, closing_cut, low_digit_cut, high_digit_cut, escape_cut, content_cut}

@@ -1,4 +1,6 @@
 // What is cut at the front of the rest of a line, and the cutters of strings and byte literals.
+#![tactic(auto)]
+
 ghost use Rattle.std.specs.Prelude.{◌≡◌, ◌+◌, ◌≤◌, ◌<◌, length, drop};
 ghost use Rattle.rules.specs.Lists.{elem, trim_end};
 ghost use Rattle.rules.specs.Tables.{is_cr, is_hex_digit};
@@ -17,7 +19,7 @@ ghost use Rattle.rules.specs.Cut.{
 ghost use Rattle.literals.specs.Cuts.{cut_of};
 
 // A failure of the rest of a line: its detail, the scalar that the detail shows, its offset and its range's length.
-#[derive(Drop)]
+#[derive(Clone, Copy)]
 pub struct Failure {
     pub detail: u32,
     pub found: u32,
@@ -27,7 +29,7 @@ pub struct Failure {
 
 // What is cut at the front of the rest of a line: a blank byte, a comment, a token of this kind and length, a number with its scan, or a
 // failure.
-#[derive(Drop)]
+#[derive(Clone, Copy)]
 pub enum Cut {
     Blank,
     Comment,

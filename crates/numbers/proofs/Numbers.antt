@@ -9,7 +9,8 @@ use lib.Dec.{ltb}
 use lib.ListN.{length, get_or, drop}
 use lib.Seq.{drop-cons, drop-drop}
 use borrow.Author.Tests.{eq-eqb, ne_eqb, lt-ltb}
-use Rattle.rules.specs.Lists.{if◌then◌else◌, ascii, begins, run}
+use Rattle.std.specs.Prelude.{if◌then◌else◌}
+use Rattle.rules.specs.Lists.{ascii, begins, run}
 use Rattle.rules.specs.Tables.{is_digit}
 use Rattle.rules.specs.Cut.{in_decimal, fraction_size, decimal_size, is_hex, digits_size, no_suffix, fx, i32, u32, f64, suffix_bytes, suffixes, suffix_of}
 use Rattle.rules.proofs.ListLaws.{run-pass, run-stop, run_end}

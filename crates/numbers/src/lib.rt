@@ -1,13 +1,14 @@
 // Numbers: the base, digits with a fraction, and a suffix, at a place in the middle of a line.
-ghost use Rattle.std.specs.Prelude.{◌≡◌, ◌+◌, ◌≤◌, length, drop};
-ghost use Rattle.rules.specs.Lists.{if◌then◌else◌};
+#![tactic(auto)]
+
+ghost use Rattle.std.specs.Prelude.{◌≡◌, ◌+◌, ◌≤◌, length, drop, if◌then◌else◌};
 ghost use Rattle.rules.specs.Tables.{is_digit};
 ghost use Rattle.rules.specs.Cut.{fraction_size, is_hex, digits_size, suffix_bytes, suffixes, suffix_of, scan_number};
 ghost use Rattle.tables.specs.All.{all_tables};
 ghost use Rattle.numbers.specs.Numbers.{rule_suffix, number_of};
 
 // The suffix of a number.
-#[derive(Drop)]
+#[derive(Clone, Copy)]
 pub enum Suffix {
     None,
     Fx,
@@ -17,7 +18,7 @@ pub enum Suffix {
 }
 
 // A number's scan, in offsets from its start: the base, where digits, `_` and fraction end, the suffix that follows there, and the end.
-#[derive(Drop)]
+#[derive(Clone, Copy)]
 pub struct Number {
     pub base: u32,
     pub digits: usize,

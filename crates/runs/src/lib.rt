@@ -1,4 +1,6 @@
 // Byte classes and runs of bytes, by the lent tables.
+#![tactic(auto)]
+
 ghost use Rattle.std.specs.Prelude.{◌≡◌, ◌+◌, ◌≤◌, ◌<◌, length, drop};
 ghost use Rattle.rules.specs.Lists.{bit, run};
 ghost use Rattle.rules.specs.Tables.{class_of};

@@ -1,4 +1,6 @@
 // Bytes sought in a line, from a place in its middle on.
+#![tactic(auto)]
+
 ghost use Rattle.std.specs.Prelude.{◌≡◌, ◌+◌, ◌≤◌, length, drop};
 ghost use Rattle.rules.specs.Lists.{begins, run, trim_end};
 ghost use Rattle.rules.specs.Tables.{is_cr};

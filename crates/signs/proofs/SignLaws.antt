@@ -11,7 +11,8 @@ use lib.ListN.{length, get_or, drop, drop_of_length-le}
 use lib.Seq.{drop-cons, drop-drop}
 use borrow.Author.Tests.{eqb-true, ne_eqb, leb-true}
 use Rattle.laws.proofs.Below.{at, entry}
-use Rattle.rules.specs.Lists.{if◌then◌else◌, within, ascii, any, every, elem, begins, run, same}
+use Rattle.std.specs.Prelude.{if◌then◌else◌}
+use Rattle.rules.specs.Lists.{within, ascii, any, every, elem, begins, run, same}
 use Rattle.rules.specs.Tables.{Spelling, signs, table_rules}
 use Rattle.rules.specs.Cut.{comment, token, sign_cut}
 use Rattle.rules.proofs.ListLaws.{and-true, or_by, run-le}

@@ -1,7 +1,7 @@
 -- What a sign's code says, the column of a text, and the codes of longer signs.
 -- Assumes nothing.
-use Rattle.std.specs.Prelude.{ℕ, suc, ◌/◌, ◌%◌, Bool, true, false, List, eqb, get_or}
-use Rattle.rules.specs.Lists.{if◌then◌else◌, ascii}
+use Rattle.std.specs.Prelude.{ℕ, suc, ◌/◌, ◌%◌, Bool, true, false, List, eqb, get_or, if◌then◌else◌}
+use Rattle.rules.specs.Lists.{ascii}
 use Rattle.rules.specs.Failure.{failure, expected_and}
 use Rattle.rules.specs.Cut.{Cut, comment, token, fails}
 use Rattle.tables.specs.Signs.{sign_code, second_bytes, place_of}

@@ -1,4 +1,6 @@
 // Signs by their first two bytes, by the lent tables.
+#![tactic(auto)]
+
 ghost use Rattle.std.specs.Prelude.{◌≡◌, ◌≤◌, ◌<◌, length, drop};
 ghost use Rattle.rules.specs.Lists.{ascii, begins};
 ghost use Rattle.tables.specs.Signs.{sign_code};

@@ -1,8 +1,8 @@
 -- Signs by their first two bytes: the code of a sign, and the tables of rows and columns.
 -- Assumes nothing.
-use Rattle.std.specs.Prelude.{ℕ, pred, ◌+◌, ◌*◌, ◌/◌, ◌%◌, not, List, [], ◌∷◌, ◌++◌, eqb, length, get_or}
+use Rattle.std.specs.Prelude.{ℕ, pred, ◌+◌, ◌*◌, ◌/◌, ◌%◌, not, List, [], ◌∷◌, ◌++◌, eqb, length, get_or, if◌then◌else◌}
 use Rattle.laws.specs.Blocks.{table}
-use Rattle.rules.specs.Lists.{if◌then◌else◌, ascii, elem, begins, run}
+use Rattle.rules.specs.Lists.{ascii, elem, begins, run}
 use Rattle.rules.specs.Tables.{Spelling, signs}
 
 -- The code of a sign.

@@ -1,4 +1,6 @@
 // The tables of bytes, spellings and signs, each held to its rule, and all of them in one array that a caller makes once and lends.
+#![tactic(auto)]
+
 ghost use Rattle.std.specs.Prelude.{◌≡◌};
 ghost use Rattle.tables.specs.Bytes.{class_table, reach_table};
 ghost use Rattle.tables.specs.Keywords.{keyword_table};

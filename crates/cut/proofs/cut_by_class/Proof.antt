@@ -23,7 +23,7 @@ unfolding cut_by
 other_cut k s n0 n1 n2 n3 n4 n5 = rw (ne_eqb k 0 n0, ne_eqb k 1 n1, ne_eqb k 2 n2, ne_eqb k 3 n3, ne_eqb k 4 n4, ne_eqb k 5 n5)
 
 -- The class of the byte at hand is known.
-module _ (k : tie.After-class-of) where
+module _ (k : tie.After-class_of) where
   abbrev called : tie.Start
   called = k.before.before.before
 
@@ -31,7 +31,7 @@ module _ (k : tie.After-class-of) where
   rest = drop called.args.at called.args.line.now
 
   abbrev inside : called.args.at < length called.args.line.now
-  inside = called.pre.1
+  inside = called.requires.1
 
   -- what is cut by this class, and the same where it holds no word
   of-class : (n : ℕ) → k.class_of.result ≡ n → cut_named called.args.named (cut_by n rest) ≡ cut_named called.args.named (cut rest)
@@ -46,71 +46,66 @@ module _ (k : tie.After-class-of) where
   other-class n e o x q =
       (q, no_number called.args.named called.args.line.now called.args.at inside (sym k.class_of.ensures ∙ e) o x q)
 
-shared-slice-read-class-of : tie.Need-shared-slice-read-class-of
+shared-slice-read-class-of : tie.Need-bounds-line-at
 shared-slice-read-class-of c = search rules
 
-class-of-requires : tie.Need-class-of-requires
+class-of-requires : tie.Need-class_of-requires
 class-of-requires c κs = search rules
 
-letter-cut-requires : tie.Need-letter-cut-requires
-letter-cut-requires c κs = (called c.before).pre
+letter-cut-requires : tie.Need-letter_cut-requires
+letter-cut-requires c κs = (called c.before).requires
 
-scan-number-requires : tie.Need-scan-number-requires
-scan-number-requires c κs = ((called c.before).pre.0, omega arith)
+scan-number-requires : tie.Need-scan_number-requires
+scan-number-requires c κs = ((called c.before).requires.0, omega arith)
 
-string-cut-requires : tie.Need-string-cut-requires
+string-cut-requires : tie.Need-string_cut-requires
 string-cut-requires c κs = inside c.before
 
-sign-or-comment-requires : tie.Need-sign-or-comment-requires
-sign-or-comment-requires c κs = (called c.before).pre
+sign-or-comment-requires : tie.Need-sign_or_comment-requires
+sign-or-comment-requires c κs = (called c.before).requires
 
-finding-at-requires : tie.Need-finding-at-requires
+finding-at-requires : tie.Need-finding_at-requires
 finding-at-requires c κs = search rules
 
-returns : tie.Need-returns
+returns : tie.Need-returns-in-0
 unfolding cut_by
-returns c = (plainly c.before 0 c.match.keys1 refl, tt)
+returns c = (plainly c.before 0 c.in-0.is refl, tt)
 
-returns-2 : tie.Need-returns-2
+returns-2 : tie.Need-returns-in-1
 unfolding cut_by
-returns-2 c = (plainly c.before 1 c.match.keys2 refl, tt)
+returns-2 c = (plainly c.before 1 c.in-1.is refl, tt)
 
-returns-3 : tie.Need-returns-3
+returns-3 : tie.Need-returns-in-2
 unfolding cut_by
 returns-3 c =
-    let k = c.before.before in
-    other-class k 2 c.before.match.keys3 (λ e. omega arith) c.letter-cut.result (c.letter-cut.ensures ∙ of-class k 2 c.before.match.keys3)
+    other-class c.before.before 2 c.in-2.is (λ e. omega arith) c.letter_cut.result (c.letter_cut.ensures ∙ of-class c.before.before 2 c.in-2.is)
 
-returns-4 : tie.Need-returns-4
+returns-4 : tie.Need-returns-in-3
 unfolding cut_by number_cut
 returns-4 c =
-    let k = c.before.before in
-    let n = c.scan-number in
-    (ap (λ (x : Number). token num x.end) n.ensures ∙ plainly k 3 c.before.match.keys4 (number-plain (rest k)), n.ensures)
+    let n = c.scan_number in
+    (ap (λ (x : Number). token num x.end) n.ensures ∙ plainly c.before.before 3 c.in-3.is (number-plain (rest c.before.before)), n.ensures)
 
-returns-5 : tie.Need-returns-5
+returns-5 : tie.Need-returns-in-4
 unfolding cut_by
 returns-5 c =
-    let k = c.before.before in
-    other-class k 4 c.before.match.keys5 (λ e. omega arith) c.string-cut.result (c.string-cut.ensures ∙ plainly k 4 c.before.match.keys5 (string_plain (rest k)))
+    other-class c.before.before 4 c.in-4.is (λ e. omega arith) c.string_cut.result (c.string_cut.ensures ∙ plainly c.before.before 4 c.in-4.is (string_plain (rest c.before.before)))
 
-returns-6 : tie.Need-returns-6
+returns-6 : tie.Need-returns-in-5
 unfolding cut_by
 returns-6 c =
-    let k = c.before.before in
-    other-class k 5 c.before.match.keys6 (λ e. omega arith) c.sign-or-comment.result (c.sign-or-comment.ensures ∙ plainly k 5 c.before.match.keys6 (sign_or_plain (rest k)))
+    other-class c.before.before 5 c.in-5.is (λ e. omega arith) c.sign_or_comment.result (c.sign_or_comment.ensures ∙ plainly c.before.before 5 c.in-5.is (sign_or_plain (rest c.before.before)))
 
-returns-7 : tie.Need-returns-7
+returns-7 : tie.Need-returns-in_default
 returns-7 c =
-    let k = c.before.before in
-    let a = (called k).args in
-    let n = c.before.match.rest in
-    let o = other_cut k.class_of.result (rest k) n.0.0.0.0.0.1 n.0.0.0.0.1 n.0.0.0.1 n.0.0.1 n.0.1 n.1 in
-    other-class k k.class_of.result refl n.0.0.1 c.finding-at.result
-    (c.finding-at.ensures ∙ ap (λ (n : ℕ). finding 1 0 (drop n a.line.now)) (add-zero a.at) ∙ sym o ∙ plainly k k.class_of.result refl (ap plain_cut o ∙ sym o))
+    let a = (called c.before.before).args in
+    let n = c.in_default.in_default-own.rest in
+    let o = other_cut c.class_of.result (rest c.before.before) n.0.0.0.0.0.1 n.0.0.0.0.1 n.0.0.0.1 n.0.0.1 n.0.1 n.1 in
+    other-class c.before.before c.class_of.result refl n.0.0.1 c.finding_at.result
+    (c.finding_at.ensures ∙ ap (λ (n : ℕ). finding 1 0 (drop n a.line.now)) (add-zero a.at) ∙ sym o ∙ plainly c.before.before c.class_of.result refl (ap plain_cut o ∙ sym o))
 
-pub cut-by-class-spec : {M : Type 1} → statement M
-cut-by-class-spec =
+pub cut_by_class_spec : {M : Type 1} → statement M
+cut_by_class_spec =
     tie.close
     (tie.spec
     shared-slice-read-class-of

@@ -15,30 +15,28 @@ use Rattle.cut.proofs.kind_of_word.Tie as tie
 abbrev word : tie.Start → List ℕ
 word s = take (s.args.end - s.args.at) (drop s.args.at s.args.line.now)
 
-sub-word-kind : tie.Need-overflow-sub-word-kind
+sub-word-kind : tie.Need-slice_bounds-word_kind-count
 sub-word-kind c = search rules
 
-part-word-kind-start : tie.Need-slice-bounds-word-kind-start
+part-word-kind-start : tie.Need-slice_bounds-word_kind-start
 part-word-kind-start c = search rules
 
-part-word-kind-end : tie.Need-slice-bounds-word-kind-end
+part-word-kind-end : tie.Need-slice_bounds-word_kind-end
 part-word-kind-end c = search rules
 
-word-kind-requires : tie.Need-word-kind-requires
+word-kind-requires : tie.Need-word_kind-requires
 word-kind-requires c κs = search rules
 
-returns : tie.Need-returns
+returns : tie.Need-returns-then-named
 returns c =
-    let s = c.before.before.before.before in
-    c.word-kind.ensures ∙ ap (λ (w : Bool). kind_asked w (word_kind keywords (word s))) (sym c.before.before.if1.true)
+    c.word_kind.ensures ∙ ap (λ (w : Bool). kind_asked w (word_kind keywords (word c.before.before.before.before))) (sym c.if-named.true)
 
-returns-2 : tie.Need-returns-2
+returns-2 : tie.Need-returns
 returns-2 c =
-    let s = c.before.before in
-    sym (word_below (word s)) ∙ ap (λ (w : Bool). kind_asked w (word_kind keywords (word s))) (sym c.if1.false)
+    sym (word_below (word c.before.before)) ∙ ap (λ (w : Bool). kind_asked w (word_kind keywords (word c.before.before))) (sym c.if-named.false)
 
-pub kind-of-word-spec : {M : Type 1} → statement M
-kind-of-word-spec =
+pub kind_of_word_spec : {M : Type 1} → statement M
+kind_of_word_spec =
     tie.close
     (tie.spec
     sub-word-kind

@@ -23,30 +23,30 @@ unfolding code_cut
 cut-none = refl
 
 -- the code is that of the line's rest
-module _ (c : tie.After-sign-code) where
-  by_code : code_cut c.sign-code.result ≡ comment_or (drop c.before.before.args.at c.before.before.args.line.now)
-  by_code = ap code_cut c.sign-code.ensures ∙ sym (code-cut (drop c.before.before.args.at c.before.before.args.line.now))
+module _ (c : tie.After-sign_code-code) where
+  by_code : code_cut c.sign_code-code.result ≡ comment_or (drop c.args.at c.args.line.now)
+  by_code = ap code_cut c.sign_code-code.ensures ∙ sym (code-cut (drop c.args.at c.args.line.now))
 
-sign-code-requires : tie.Need-sign-code-requires
+sign-code-requires : tie.Need-sign_code-code-requires
 sign-code-requires c κs = search rules
 
-cast-size : tie.Need-overflow-cast-size
+cast-size : tie.Need-overflow_cast-size
 cast-size c = search rules
 
-add-size : tie.Need-overflow-add-size
+add-size : tie.Need-overflow_add-size
 add-size c = search rules
 
-returns : tie.Need-returns
-returns c = code-token c.before.sign-code.result c.if1.true ∙ by_code c.before
+returns : tie.Need-returns-then-code-gt1
+returns c = code-token c.sign_code-code.result c.if-code-gt1.true ∙ by_code c.before
 
-returns-2 : tie.Need-returns-2
-returns-2 c = cut-comment ∙ ap code_cut (sym c.if2.true) ∙ by_code c.before.before
+returns-2 : tie.Need-returns-then-code-eq1
+returns-2 c = cut-comment ∙ ap code_cut (sym c.if-code-eq1.true) ∙ by_code c.before.before
 
-returns-3 : tie.Need-returns-3
+returns-3 : tie.Need-returns
 returns-3 c =
-    let z : 0 ≡ c.before.before.sign-code.result = omega (arith, c.before.if1.false, c.if2.false) in
+    let z : 0 ≡ c.sign_code-code.result = omega (arith, c.if-code-gt1.false, c.if-code-eq1.false) in
     cut-none ∙ ap code_cut z ∙ by_code c.before.before
 
-pub sign-or-comment-spec : {M : Type 1} → statement M
-sign-or-comment-spec =
+pub sign_or_comment_spec : {M : Type 1} → statement M
+sign_or_comment_spec =
     tie.close (tie.spec sign-code-requires cast-size add-size returns returns-2 returns-3)

@@ -16,10 +16,10 @@ use Rattle.literals.proofs.Trimmed.{token-trimmed, trim-front, trim_take}
 use Rattle.literals.proofs.scan_ascii_byte_literal.Statement.{statement}
 use Rattle.literals.proofs.scan_ascii_byte_literal.Tie as tie
 
-abbrev invariant-loop : tie.invariant-loop
+abbrev invariant-loop : tie.invariant-loop-literal
 invariant-loop line at end₀ end = (length (trim_end is_cr line) ≤ end) × (end ≤ length line)
 
-abbrev decreases-loop : tie.decreases-loop
+abbrev decreases-loop : tie.decreases-loop-literal
 decreases-loop line at end₀ end = end
 
 module _ (l : List ℕ) (at : ℕ) where
@@ -43,51 +43,48 @@ module _ (l : List ℕ) (at : ℕ) where
         ∙ ap content_cut (sym (trim_end_drop is_cr (at + 2) (take (end - 0) l)))
         ∙ token-trimmed (drop (at + 2) (take (end - 0) l)) k n e
 
-loop-holds : tie.Need-loop-init invariant-loop decreases-loop
-loop-holds c = (trim_end-le is_cr c.before.args.line.now, omega arith)
+loop-holds : tie.Need-loop-literal-init invariant-loop decreases-loop
+loop-holds c = (trim_end-le is_cr c.args.line.now, omega arith)
 
-sub-content-cut : tie.Need-overflow-sub-content-cut invariant-loop decreases-loop
+sub-content-cut : tie.Need-slice_bounds-content_cut-count invariant-loop decreases-loop
 sub-content-cut c = omega arith
 
-part-content-cut-start : tie.Need-slice-bounds-content-cut-start invariant-loop decreases-loop
+part-content-cut-start : tie.Need-slice_bounds-content_cut-start invariant-loop decreases-loop
 part-content-cut-start c = omega arith
 
-part-content-cut-end : tie.Need-slice-bounds-content-cut-end invariant-loop decreases-loop
+part-content-cut-end : tie.Need-slice_bounds-content_cut-end invariant-loop decreases-loop
 part-content-cut-end c = omega arith
 
-content-cut-requires : tie.Need-content-cut-requires invariant-loop decreases-loop
-content-cut-requires c κs = simp length-take (omega (arith, c.before.loop.invariant, c.before.before.before.requires))
+content-cut-requires : tie.Need-content_cut-literal-requires invariant-loop decreases-loop
+content-cut-requires c κs = simp length-take (omega (arith, c.loop-literal.invariant, c.requires))
 
-enum_told : tie.Need-enum-told invariant-loop decreases-loop
+enum_told : tie.Need-enum_told-1 invariant-loop decreases-loop
 enum_told c = search rules
 
-returns : tie.Need-returns invariant-loop decreases-loop
+returns : tie.Need-returns-in-Token invariant-loop decreases-loop
 returns c =
-    let l = c.before.before.before.before in
-    let a = l.before.before.args in
-    let k = c.enum_told.given in
-    let e = ap cut_of k.1 in
-    e ∙ sym (whole-line a.line.now a.at l.loop.end l.loop.invariant.0 k.0.0 k.0.1.0 (sym c.before.before.content-cut.ensures ∙ e))
+    let a = c.args in
+    let k = c.in-Token in
+    let e = ap cut_of k.is in
+    e ∙ sym (whole-line a.line.now a.at c.loop-literal.end c.loop-literal.invariant.0 k.field-0 k.field-1 (sym c.content_cut-literal.ensures ∙ e))
 
-trimmed-end-requires : tie.Need-trimmed-end-requires invariant-loop decreases-loop
+trimmed-end-requires : tie.Need-trimmed_end-trimmed-requires invariant-loop decreases-loop
 trimmed-end-requires c κs = search rules
 
-returns-2 : tie.Need-returns-2 invariant-loop decreases-loop
+returns-2 : tie.Need-returns-then-end-trimmed invariant-loop decreases-loop
 returns-2 c =
-    let l = c.before.before.before.before.before in
-    let a = l.before.before.args in
-    c.before.before.before.content-cut.ensures ∙ trimmed-line a.line.now a.at l.loop.end (c.if1.true ∙ c.before.trimmed-end.ensures)
+    let a = c.args in
+    c.content_cut-literal.ensures ∙ trimmed-line a.line.now a.at c.loop-literal.end (c.if-end-trimmed.true ∙ c.trimmed_end-trimmed.ensures)
 
-loop-less : tie.Need-loop-smaller invariant-loop decreases-loop
-loop-less c = omega (arith, c.before.before.before.before.before.loop.invariant.0, c.before.trimmed-end.ensures, c.if1.false)
+loop-less : tie.Need-loop-literal-smaller invariant-loop decreases-loop
+loop-less c = omega (arith, c.loop-literal.invariant.0, c.trimmed_end-trimmed.ensures, c.if-end-trimmed.false)
 
-loop-again : tie.Need-loop-preserved invariant-loop decreases-loop
+loop-again : tie.Need-loop-literal-preserved invariant-loop decreases-loop
 loop-again c =
-    let l = c.before.before.before.before.before in
-    (omega (arith, c.before.trimmed-end.ensures), omega (arith, l.loop.invariant, c.before.trimmed-end.ensures))
+    (omega (arith, c.trimmed_end-trimmed.ensures), omega (arith, c.loop-literal.invariant, c.trimmed_end-trimmed.ensures))
 
-pub scan-ascii-byte-literal-spec : {M : Type 1} → statement M
-scan-ascii-byte-literal-spec =
+pub scan_ascii_byte_literal_spec : {M : Type 1} → statement M
+scan_ascii_byte_literal_spec =
     tie.close
     (tie.spec
     invariant-loop

@@ -44,50 +44,50 @@ no_longer : (c : ℕ) → (c ≡ 201 → ⊥) → (c ≡ 177 → ⊥) → (c ≡
 unfolding code_rules table_rules longer
 no_longer c n1 n2 n3 = rw (ne_eqb c 201 n1, ne_eqb c 177 n2, ne_eqb c 178 n3)
 
-sub-if1 : tie.Need-overflow-sub-if1
+sub-if1 : tie.Need-overflow_sub-line
 sub-if1 c = search rules
 
-returns : tie.Need-returns
+returns : tie.Need-returns-then-line-at-lt2
 returns c =
-    let a = c.before.args in
-    as-it-is a.line.now a.at a.code (no_third a.line.now a.at c.if1.true)
+    let a = c.args in
+    as-it-is a.line.now a.at a.code (no_third a.line.now a.at c.if-line-at-lt2.true)
 
-add-if2 : tie.Need-overflow-add-if2
+add-if2 : tie.Need-overflow_add-at
 add-if2 c = search rules
 
-shared-slice-read-if2 : tie.Need-shared-slice-read-if2
+shared-slice-read-if2 : tie.Need-bounds-line-at
 shared-slice-read-if2 c = search rules
 
-returns-2 : tie.Need-returns-2
+returns-2 : tie.Need-returns-then-line-at-ne61
 returns-2 c =
-    let a = c.before.before.before.args in
+    let a = c.args in
     as-it-is a.line.now a.at a.code
-    (third-is a.line.now a.at (omega arith) ∙ rw (ne_eqb 61 (get_or a.line.now (a.at + 1) 0) (λ e. c.if2.true (sym e))) refl)
+    (third-is a.line.now a.at (omega arith) ∙ rw (ne_eqb 61 (get_or a.line.now (a.at + 1) 0) (λ e. c.if-line-at-ne61.true (sym e))) refl)
 
 -- a `=` follows
-module _ (c : tie.Else2) where
-  in-longer : {r : ℕ} → r ≡ longer c.before.before.before.args.code
-      → r ≡ longer_by (begins (ascii "=") (drop 1 (drop c.before.before.before.args.at c.before.before.before.args.line.now))) c.before.before.before.args.code
+module _ (c : tie.Else-line-at-ne61) where
+  in-longer : {r : ℕ} → r ≡ longer c.args.code
+      → r ≡ longer_by (begins (ascii "=") (drop 1 (drop c.args.at c.args.line.now))) c.args.code
   in-longer =
-      let a = c.before.before.before.args in
-      before-equal a.line.now a.at a.code (omega arith) c.if2.false
+      let a = c.args in
+      before-equal a.line.now a.at a.code (omega arith) c.if-line-at-ne61.false
 
-returns-3 : tie.Need-returns-3
-returns-3 c = in-longer c.before (sym (ap longer c.match.keys1 ∙ longer-dots))
+returns-3 : tie.Need-returns-in-201
+returns-3 c = in-longer c.before (sym (ap longer c.in-201.is ∙ longer-dots))
 
-returns-4 : tie.Need-returns-4
-returns-4 c = in-longer c.before (sym (ap longer c.match.keys2 ∙ longer-and))
+returns-4 : tie.Need-returns-in-177
+returns-4 c = in-longer c.before (sym (ap longer c.in-177.is ∙ longer-and))
 
-returns-5 : tie.Need-returns-5
-returns-5 c = in-longer c.before (sym (ap longer c.match.keys3 ∙ longer-or))
+returns-5 : tie.Need-returns-in-178
+returns-5 c = in-longer c.before (sym (ap longer c.in-178.is ∙ longer-or))
 
-returns-6 : tie.Need-returns-6
+returns-6 : tie.Need-returns-in_default
 returns-6 c =
-    let n = c.match.rest in
+    let n = c.in_default.in_default-own.rest in
     in-longer c.before (sym (no_longer _ n.0.0.1 n.0.1 n.1))
 
-pub longer-sign-spec : {M : Type 1} → statement M
-longer-sign-spec =
+pub longer_sign_spec : {M : Type 1} → statement M
+longer_sign_spec =
     tie.close
     (tie.spec
     sub-if1
