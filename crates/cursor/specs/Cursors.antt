@@ -1,7 +1,6 @@
 -- How far a line is cut, as the code has it.
 -- Assumes nothing.
-use Rattle.std.specs.Prelude.{ℕ, suc, pred, ◌+◌, false, eqb}
-use Rattle.rules.specs.Lists.{if◌then◌else◌}
+use Rattle.std.specs.Prelude.{ℕ, suc, pred, ◌+◌, false, eqb, if◌then◌else◌}
 use Rattle.rules.specs.Kinds.{implies, l_paren, r_paren}
 use Rattle.cursor.specs.declared.Cursor.{Cursor}
 

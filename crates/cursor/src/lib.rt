@@ -1,4 +1,6 @@
 // How far a line is cut: past blanks and tokens, which are put where the pass writes; and the tokens at a line's start.
+#![tactic(auto)]
+
 ghost use Rattle.std.specs.Prelude.{◌≡◌, true, ◌+◌, ◌*◌, ◌/◌, ◌%◌, ◌≤◌, ◌<◌, length};
 ghost use Rattle.laws.specs.Puts.{put_if};
 ghost use Rattle.rules.specs.Line.{dedents};
@@ -8,6 +10,7 @@ ghost use Rattle.levels.specs.Levels.{leading};
 ghost use Rattle.cursor.specs.Cursors.{depth_by, cursor_at, blank_past, token_past};
 
 // The depth that a token of this kind leaves.
+#[tactic(auto, using(std::proofs::lemmas::Bool::Decides::nat_tests), unfolding(crate::specs::Cursors::depth_by))]
 pub fn depth_by(depth: u32, kind: u32) -> u32
     requires { depth ≤ 8_388_608 }
     ensures { result ≡ depth_by depth kind }
@@ -25,7 +28,7 @@ pub fn depth_by(depth: u32, kind: u32) -> u32
 }
 
 // How far a line is cut: the next byte, the number of tokens so far, the depth after them and whether the last one is an arrow.
-#[derive(Drop)]
+#[derive(Clone, Copy)]
 pub struct Cursor {
     pub at: usize,
     pub n: usize,

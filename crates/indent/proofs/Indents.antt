@@ -10,7 +10,8 @@ use lib.Dec.{eqb}
 use lib.ListN.{length, get_or, drop, drop_of_length-le, length-drop}
 use lib.Seq.{drop-cons}
 use borrow.Author.Tests.{eq-eqb, ne_eqb}
-use Rattle.rules.specs.Lists.{if◌then◌else◌, ascii, begins, run}
+use Rattle.std.specs.Prelude.{if◌then◌else◌}
+use Rattle.rules.specs.Lists.{ascii, begins, run}
 use Rattle.rules.specs.Tables.{is_blank}
 use Rattle.rules.specs.Line.{is_space, is_tab, indent_width, indent_size, after_blanks, is_blank_line}
 use Rattle.indent.specs.Indents.{ends_or_comment}

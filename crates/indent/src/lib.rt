@@ -1,4 +1,6 @@
 // What stands at the start of a line: its leading spaces and tabs, its width, and whether it is blank or a comment.
+#![tactic(auto)]
+
 ghost use Rattle.std.specs.Prelude.{◌≡◌, ◌||◌, ◌≤◌, length, drop};
 ghost use Rattle.rules.specs.Lists.{run};
 ghost use Rattle.rules.specs.Tables.{is_blank};

@@ -1,7 +1,7 @@
 -- The levels at a line's start, as the rules have them.
 -- Assumes nothing.
-use Rattle.std.specs.Prelude.{ℕ, ◌≤◌, List, [], ◌∷◌, take}
-use Rattle.rules.specs.Lists.{if◌then◌else◌, overwrite}
+use Rattle.std.specs.Prelude.{ℕ, ◌≤◌, List, [], ◌∷◌, take, if◌then◌else◌}
+use Rattle.rules.specs.Lists.{overwrite}
 use Rattle.rules.specs.Kinds.{indent}
 use Rattle.rules.specs.Line as RulesLine
 use Rattle.rules.specs.Limits.{max_levels}

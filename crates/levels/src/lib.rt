@@ -1,4 +1,6 @@
 // The levels that a line opens or closes: its width compared with those of the open levels.
+#![tactic(auto)]
+
 ghost use Rattle.std.specs.Prelude.{◌≡◌, [], ◌≤◌, ltb, length, take};
 ghost use Rattle.rules.specs.Lists.{run, trim_end, last_d};
 ghost use Rattle.rules.specs.Line.{is_space, is_compared, compared, levels_of};
@@ -8,7 +10,7 @@ ghost use Rattle.refusals.specs.Limits.{line_limits_of};
 ghost use Rattle.levels.specs.Levels.{compared_of, widths_after, Within};
 
 // What a line's width gives: an Indent, or so many Dedents, and the levels then open.
-#[derive(Drop)]
+#[derive(Clone, Copy)]
 pub struct Lead {
     pub opens: bool,
     pub closes: usize,
@@ -16,7 +18,7 @@ pub struct Lead {
 }
 
 // The same; or a width that is none of the open ones; or a limit's refusal, by its number.
-#[derive(Drop)]
+#[derive(Clone, Copy)]
 pub enum Compared {
     Levels(Lead),
     Unequal,
@@ -50,6 +52,7 @@ fn levels_left(widths: &[u32], levels: usize, width: u32) -> usize
 }
 
 // The line's width compared with the open levels; a wider one is pushed.
+#[tactic(auto, using(std::proofs::lemmas::Bool::Decides::nat_tests, crate::proofs::Levels::fronts), unfolding(rules::specs::Line::compared, rules::specs::Line::opened, rules::specs::Line::closed))]
 fn compare_levels(
     limits: refusals::LineLimits,
     widths: &mut [u32],
@@ -84,6 +87,7 @@ fn compare_levels(
 }
 
 // The line's width is compared: it is not blank, no bracket is open and no arrow is carried.
+#[tactic(auto, using(std::proofs::lemmas::Bool::Decides::nat_tests), unfolding(rules::specs::Line::is_compared))]
 fn is_compared(line: &[u8], spaces: usize, s: records::State) -> bool
     requires { spaces ≡ run is_space line.now }
     ensures { result ≡ is_compared (state_of s []) line.now }

@@ -1,6 +1,6 @@
 -- The cuts of a line as a loop makes them: what was cut so far, and what is left.
 -- Assumes nothing.
-use Prim.Native.Nat.{ℕ, suc, ◌+◌, ◌-◌, ◌*◌, ◌≤◌, ◌<◌, pred}
+use Prim.Native.Nat.{ℕ, suc, ◌+◌, ◌*◌, ◌≤◌, ◌<◌, pred}
 use mathlib.Core.Path.{◌≡◌, refl, sym, ap, subst, ◌∙◌}
 use mathlib.Core.Bool.{Bool, true, false, not, ◌&&◌, false≢true}
 use mathlib.Core.List.{List, [], ◌∷◌, ◌++◌, append_assoc, append-nil}
@@ -8,7 +8,8 @@ use native.Mathlib.Omega.{arith}
 use native.Mathlib.Numerals.{add-one}
 use lib.Dec.{eqb}
 use lib.ListN.{length, drop, length-append, length-drop}
-use Rattle.rules.specs.Lists.{if◌then◌else◌, run}
+use Rattle.std.specs.Prelude.{if◌then◌else◌}
+use Rattle.rules.specs.Lists.{run}
 use Rattle.rules.specs.Kinds.{ident, implies, l_paren, r_paren}
 use Rattle.rules.specs.Failure.{Failure}
 use Rattle.rules.specs.Cut.{blank, comment, token, fails, cut}
@@ -50,12 +51,12 @@ depth_snoc : (d : ℕ) (ts : List Token) (t : Token)
     → depth_after d (ts ++ (t ∷ [])) ≡ (if eqb t.kind l_paren then suc (depth_after d ts) else if eqb t.kind r_paren then pred (depth_after d ts) else depth_after d ts)
 unfolding depth_after
 depth_snoc d [] t = refl
-depth_snoc d (x ∷ ts) t = depth_snoc _ ts t
+depth_snoc d (x ∷ ts) t = depth_snoc (if eqb x.kind l_paren then suc d else if eqb x.kind r_paren then pred d else d) ts t
 
 arrow_snoc : (a : Bool) (ts : List Token) (t : Token) → arrow_after a (ts ++ (t ∷ [])) ≡ eqb t.kind implies
 unfolding arrow_after
 arrow_snoc a [] t = refl
-arrow_snoc a (x ∷ ts) t = arrow_snoc _ ts t
+arrow_snoc a (x ∷ ts) t = arrow_snoc (eqb x.kind implies) ts t
 
 words_snoc : (p l : ℕ) (ts : List Token) (t : Token) → token_words p l (ts ++ (t ∷ [])) ≡ token_words p l ts ++ (t.kind ∷ (p + t.at) ∷ t.size ∷ l ∷ suc t.at ∷ [])
 unfolding token_words

@@ -10,7 +10,7 @@ use lib.ListN.{length, take, length-append}
 use Rattle.rules.specs.Kinds.{newline}
 use Rattle.rules.specs.Failure.{Failure, failure, bad_indent}
 use Rattle.rules.specs.Limits.{max_levels, LineLimits}
-use Rattle.rules.specs.Line.{Token, token_at, Cuts, cuts, stops, cuts_from, depth_after, arrow_after, State, Levels, levels, unequal, beyond, indent_size, levels_of, failed, over_limit, LineReply, line_halts, with_cuts, with_levels, read_line}
+use Rattle.rules.specs.Line.{Token, token_at, Cuts, cuts, stops, cuts_from, depth_after, arrow_after, State, levels, unequal, beyond, indent_size, levels_of, failed, over_limit, LineReply, line_halts, with_cuts, with_levels, read_line}
 use Rattle.rules.specs.Records.{token_size, token_words}
 use Rattle.rules.proofs.RecordLaws.{length_token_words}
 use Rattle.rules.proofs.BoundLaws.{cuts-ok}

@@ -1,4 +1,6 @@
 // One line, read from the state before it.
+#![tactic(auto)]
+
 ghost use Rattle.std.specs.Prelude.{◌≡◌, true, not, ◌&&◌, ◌+◌, ◌*◌, ◌≤◌, ◌<◌, eqb, length, drop};
 ghost use Rattle.laws.specs.Puts.{put_if};
 ghost use Rattle.rules.specs.Lists.{ascii, begins, run};
@@ -27,7 +29,7 @@ fn moved_by(at: usize, f: literals::Failure) -> literals::Failure
 }
 
 // What the cuts of a line give: the number of tokens, the depth after them and whether the last one is an arrow; or the first failure.
-#[derive(Drop)]
+#[derive(Clone, Copy)]
 pub enum LineCuts {
     Ends(usize, u32, bool),
     Stops(literals::Failure),
@@ -106,7 +108,7 @@ fn cut_line(
 }
 
 // What a line gives: the number of its tokens and the state after it; or its failure; or a limit's refusal, by its number.
-#[derive(Drop)]
+#[derive(Clone, Copy)]
 pub enum LineRead {
     Reads(usize, records::State),
     Fails(literals::Failure),

@@ -9,7 +9,8 @@ use lib.Dec.{ltb}
 use lib.ListN.{length, take, drop, length-append, length-drop, length-take}
 use lib.Seq.{length-take-le}
 use borrow.Author.Tests.{ltb-true, ltb-false}
-use Rattle.rules.specs.Lists.{if◌then◌else◌, run}
+use Rattle.std.specs.Prelude.{if◌then◌else◌}
+use Rattle.rules.specs.Lists.{run}
 use Rattle.rules.specs.Limits.{max_levels, LineLimits}
 use Rattle.rules.specs.Line as RulesLine
 use Rattle.rules.specs.Line.{initial, Token, Halt, failed, over_limit, LineReply, line_reads, line_halts, read_line}

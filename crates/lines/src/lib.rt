@@ -1,6 +1,8 @@
 // One line of a text at its place, and its record.
-ghost use Rattle.std.specs.Prelude.{◌≡◌, true, suc, ◌+◌, ◌-◌, ◌*◌, ◌≤◌, ◌<◌, ltb, length, drop};
-ghost use Rattle.rules.specs.Lists.{if◌then◌else◌, run};
+#![tactic(auto)]
+
+ghost use Rattle.std.specs.Prelude.{◌≡◌, true, suc, ◌+◌, ◌-◌, ◌*◌, ◌≤◌, ◌<◌, ltb, length, drop, if◌then◌else◌};
+ghost use Rattle.rules.specs.Lists.{run};
 ghost use Rattle.rules.specs.Failure.{detail_of, failure_record};
 ghost use Rattle.rules.specs.Line.{dedents, read_line};
 ghost use Rattle.rules.specs.Reading.{not_lf, line_at, size_at};
@@ -66,7 +68,7 @@ pub fn past_lf(text: &[u8], end: usize) -> usize
 }
 
 // What the next line gives: where the one after it starts, the number of its tokens, the state after it; or why it does not read.
-#[derive(Drop)]
+#[derive(Clone, Copy)]
 pub enum Step {
     Reads(usize, usize, records::State),
     Refused(refusals::Unread),

@@ -45,107 +45,102 @@ module _ (s : tie.Start) where
   unfolding token_words
   no-tokens h e = rw e (sym (put_if-none place.write s.args.tokens.now (token_size * place.first)))
 
-abbrev called : tie.After-leading-spaces → tie.Start
+abbrev called : tie.After-leading_spaces-spaces → tie.Start
 called c = c.before.before.before.before
 
-leading-spaces-requires : tie.Need-leading-spaces-requires
-leading-spaces-requires c κs = c.before.before.before.requires.0
+leading-spaces-requires : tie.Need-leading_spaces-spaces-requires
+leading-spaces-requires c κs = c.requires.0
 
 -- The levels are compared.
-module _ (v : tie.After-levels-of) where
+module _ (v : tie.After-levels_of) where
   abbrev start : tie.Start
   start = called v.before.before
 
 -- The levels are known.
-module _ (k : tie.After-known-told) where
-  abbrev compared : tie.After-levels-of
-  compared = k.before.before.before.before.before
+module _ (k : tie.In-Levels) where
+  abbrev compared : tie.After-levels_of
+  compared = k.before.before.before
 
   abbrev lead : Lead
-  lead = k.before.lead.given.0.0
+  lead = k.in-Levels.lead
 
-  levels-are : levels_of (lim (start compared)) (state (start compared)) (line (start compared)) ≡ levels (leading lead) (take lead.levels compared.levels-of.last.1.1.1.1.0)
-  levels-are = levels-known (lim (start compared)) (state (start compared)) (line (start compared)) _ lead _ compared.levels-of.ensures.0 k.before.lead.given.1
+  levels-are : levels_of (lim (start compared)) (state (start compared)) (line (start compared)) ≡ levels (leading lead) (take lead.levels compared.levels_of.new.widths)
+  levels-are = levels-known (lim (start compared)) (state (start compared)) (line (start compared)) _ lead _ compared.levels_of.ensures.0 k.in-Levels.is
 
   within : (lead.levels ≤ max_levels) × (lead.closes ≤ max_levels)
-  within = subst Within k.before.lead.given.1 compared.levels-of.ensures.1.0
+  within = subst Within k.in-Levels.is compared.levels_of.ensures.1.0
 
-levels-of-requires : tie.Need-levels-of-requires
+levels-of-requires : tie.Need-levels_of-requires
 levels-of-requires c κs =
     let q = (called c.before).requires.1 in
-    ((omega (arith, q.0.0), q.1.0.0, q.1.0.1, q.1.0.2), c.before.leading-spaces.ensures)
+    ((omega (arith, q.0.0), q.1.0.0, q.1.0.1, q.1.0.2), c.leading_spaces-spaces.ensures)
 
-enum-known-lead : tie.Need-enum-known-lead
+enum-known-lead : tie.Need-enum_known-lead
 enum-known-lead c = search rules
 
-cut-after-requires : tie.Need-cut-after-requires
+cut-after-requires : tie.Need-cut_after-requires
 cut-after-requires c κs =
-    let k = c.before in
-    let s = start (compared k) in
-    let q = s.pre.1 in (
-      s.pre.0,
+    let s = start (compared c.before) in
+    let q = s.requires.1 in (
+      s.requires.0,
       (
         q.0,
         (
-          ((within k).1, (compared k).before.before.leading-spaces.ensures),
-          λ w. line-room (lim s) (state s) (line s) (lead k) _ (levels-are k) (place s).first (length s.args.tokens.now) (q.1.1 w),
+          ((within c.before).1, (compared c.before).leading_spaces-spaces.ensures),
+          λ w. line-room (lim s) (state s) (line s) (lead c.before) _ (levels-are c.before) (place s).first (length s.args.tokens.now) (q.1.1 w),
         ),
       ),
     )
 
-enum_told : tie.Need-enum-told
+enum_told : tie.Need-enum_told-1
 enum_told c = search rules
 
-leading-indent-bytes-requires : tie.Need-leading-indent-bytes-requires
+leading-indent-bytes-requires : tie.Need-leading_indent_bytes-requires
 leading-indent-bytes-requires c κs = search rules
 
-enum-known-refusal : tie.Need-enum-known-refusal
+enum-known-refusal : tie.Need-enum_known-refusal
 enum-known-refusal c = search rules
 
-same_length : tie.Need-same-length
+same_length : tie.Need-shape_of-tokens
 same_length c = search rules
 
-same-length-2 : tie.Need-same-length-2
+same-length-2 : tie.Need-shape_of-widths-in-Levels
 same-length-2 c = search rules
 
-returns : tie.Need-returns
+returns : tie.Need-returns-in-Levels
 returns c =
-    let x = c.before.before in
-    let k = x.before.before in
-    let s = start (compared k) in
+    let s = start (compared c.before.before.before.before) in
     let a = s.args in (
-      line-counted (lim s) (state s) (line s) (lead k) _ (levels-are k) _ x.cut-after.ensures.0,
+      line-counted (lim s) (state s) (line s) (lead c.before.before.before.before) _ (levels-are c.before.before.before.before) _ c.cut_after.ensures.0,
       (
-        levels-within (lead k) (line_cuts_of a.s.depth (cuts_from 0 0 (line s))) _ x.cut-after.ensures.0 (within k).0,
+        levels-within (lead c.before.before.before.before) (line_cuts_of a.s.depth (cuts_from 0 0 (line s))) _ c.cut_after.ensures.0 (within c.before.before.before.before).0,
         (
-          (compared k).levels-of.ensures.1.1,
-          x.cut-after.ensures.1 ∙ ap (with-tokens s) (line-tokens (lim s) (state s) (line s) (lead k) _ (levels-are k)),
+          (compared c.before.before.before.before).levels_of.ensures.1.1,
+          c.cut_after.ensures.1 ∙ ap (with-tokens s) (line-tokens (lim s) (state s) (line s) (lead c.before.before.before.before) _ (levels-are c.before.before.before.before)),
         ),
       ),
     )
 
-same-length-3 : tie.Need-same-length-3
+same-length-3 : tie.Need-shape_of-widths-in-Unequal
 same-length-3 c = search rules
 
-returns-2 : tie.Need-returns-2
+returns-2 : tie.Need-returns-in-Unequal
 returns-2 c =
-    let v = c.before.before.before.before.before in
-    let s = start v in
-    let e = read-unequal (lim s) (state s) (line s) _ _ v.levels-of.ensures.0 c.before.enum_told.given.1 in
-    (ap (λ (n : ℕ). counted_halts (failed (failure bad_indent 0 0 n))) c.leading-indent-bytes.ensures ∙ ap counted (sym e), (tt, (v.levels-of.ensures.1.1, no-tokens s _ e)))
+    let s = start c.before.before.before.before in
+    let e = read-unequal (lim s) (state s) (line s) _ _ c.levels_of.ensures.0 c.in-Unequal.is in
+    (ap (λ (n : ℕ). counted_halts (failed (failure bad_indent 0 0 n))) c.leading_indent_bytes.ensures ∙ ap counted (sym e), (tt, (c.levels_of.ensures.1.1, no-tokens s _ e)))
 
-same-length-4 : tie.Need-same-length-4
+same-length-4 : tie.Need-shape_of-widths-in-Beyond
 same-length-4 c = search rules
 
-returns-3 : tie.Need-returns-3
+returns-3 : tie.Need-returns-in-Beyond
 returns-3 c =
-    let v = c.before.before.before.before.before in
-    let s = start v in
-    let e = read-beyond (lim s) (state s) (line s) _ _ c.before.refusal.given.0.0 v.levels-of.ensures.0 c.before.refusal.given.1 in
-    (ap counted (sym e), (tt, (v.levels-of.ensures.1.1, no-tokens s _ e)))
+    let s = start c.before.before.before in
+    let e = read-beyond (lim s) (state s) (line s) _ _ c.in-Beyond.refusal c.levels_of.ensures.0 c.in-Beyond.is in
+    (ap counted (sym e), (tt, (c.levels_of.ensures.1.1, no-tokens s _ e)))
 
-pub read-line-spec : {M : Type 1} → statement M
-read-line-spec =
+pub read_line_spec : {M : Type 1} → statement M
+read_line_spec =
     tie.close
     (tie.spec
     leading-spaces-requires

@@ -46,24 +46,24 @@ module _ (s : tie.Start) where
   place = s.args.place
 
   some : at < length text
-  some = s.pre.1.0.0
+  some = s.requires.1.0.0
 
   few_bytes : place.start + (length text - at) ≤ 1_048_576
-  few_bytes = s.pre.1.0.1.0
+  few_bytes = s.requires.1.0.1.0
 
   few-lines : place.line ≤ 1_048_576
-  few-lines = s.pre.1.0.1.1.0
+  few-lines = s.requires.1.0.1.1.0
 
 -- The line ends where `line_end` says.
-module _ (e : tie.After-line-end) where
+module _ (e : tie.After-line_end-end) where
   abbrev start : tie.Start
-  start = e.before.before.before.before.before.before.before.before.before.before
+  start = e.before.before.before.before.before.before.before.before.before
 
   abbrev line : List ℕ
-  line = take (e.line-end.result - at start) (drop (at start) (text start))
+  line = take (e.line_end-end.result - at start) (drop (at start) (text start))
 
   line-is : line ≡ line-here start
-  line-is = slice_is (text start) (at start) _ e.line-end.ensures
+  line-is = slice_is (text start) (at start) _ e.line_end-end.ensures
 
   line-inside : at start + length line ≤ length (text start)
   line-inside =
@@ -71,8 +71,8 @@ module _ (e : tie.After-line-end) where
       omega (arith, ap length line-is, length-take (run not_lf rest) rest, length-drop (at start) (text start), some start)
 
 -- The line is read, and its records are put.
-module _ (r : tie.After-read-line) where
-  abbrev ended : tie.After-line-end
+module _ (r : tie.After-read_line) where
+  abbrev ended : tie.After-line_end-end
   ended = r.before.before.before.before
 
   abbrev here : tie.Start
@@ -85,129 +85,128 @@ module _ (r : tie.After-read-line) where
   reply-is = ap (read_line (lim here) (z here)) (sym (line-is ended))
 
   written : let a = here.args in let p = place here in
-      (ended.before.before.before.put-line.last.0 ≡ put_if p.write a.lines.now (line_size * p.line) (line_record p.start p.first (z here)))
-      × (r.read-line.last.1.1.0 ≡ put_if p.write a.tokens.now (token_size * p.first) (token_words p.start (p.line + 1) (tokens_in (read_line (lim here) (z here) (line-here here)))))
+      (ended.put_line.new.lines ≡ put_if p.write a.lines.now (line_size * p.line) (line_record p.start p.first (z here)))
+      × (r.read_line.new.tokens ≡ put_if p.write a.tokens.now (token_size * p.first) (token_words p.start (p.line + 1) (tokens_in (read_line (lim here) (z here) (line-here here)))))
   written =
       let p = place here in
-      (ended.before.before.before.put-line.ensures, r.read-line.ensures.1.1.1 ∙ ap (λ (y : LineReply). put_if p.write here.args.tokens.now (token_size * p.first) (token_words p.start (p.line + 1) (tokens_in y))) (sym reply-is))
+      (ended.put_line.ensures, r.read_line.ensures.1.1.1 ∙ ap (λ (y : LineReply). put_if p.write here.args.tokens.now (token_size * p.first) (token_words p.start (p.line + 1) (tokens_in y))) (sym reply-is))
 
-abbrev reads_at : tie.After-past-lf → tie.After-read-line
-reads_at c = c.before.before.before.before.before.before.before.before
+abbrev reads_at : tie.After-past_lf → tie.After-read_line
+reads_at c = c.before.before.before.before.before.before
 
 -- It fails.
-module _ (c : tie.After-known-told2) where
-  abbrev fails-at : tie.After-read-line
-  fails-at = c.before.before.before.before.before.before.before
+module _ (c : tie.In-Fails) where
+  abbrev fails-at : tie.After-read_line
+  fails-at = c.before.before.before.before.before
 
-  fails-as : reply fails-at ≡ line_halts (failed (failure_of c.before.f.given.0.0))
-  fails-as = line-fails _ _ (reply fails-at) fails-at.read-line.ensures.0 _ c.before.f.given.1
+  fails-as : reply fails-at ≡ line_halts (failed (failure_of c.in-Fails.f))
+  fails-as = line-fails _ _ (reply fails-at) fails-at.read_line.ensures.0 _ c.in-Fails.is
 
-abbrev over-at : tie.After-known-told3 → tie.After-read-line
-over-at c = c.before.before.before.before.before.before.before
+abbrev over-at : tie.In-OverLimit → tie.After-read_line
+over-at c = c.before.before.before.before.before
 
-put-line-requires : tie.Need-put-line-requires
+put-line-requires : tie.Need-put_line-requires
 put-line-requires c κs =
-    let p = c.before.before.before.before.before.before.requires.1 in
+    let p = c.requires.1 in
     ((p.1.0.1.1, (p.1.0.1.0, omega (arith, p.0.1.1.1))), λ w. (p.1.1 w).0)
 
-line-end-requires : tie.Need-line-end-requires
+line-end-requires : tie.Need-line_end-end-requires
 line-end-requires c κs = search rules
 
-sub-read-line : tie.Need-overflow-sub-read-line
+sub-read-line : tie.Need-slice_bounds-read_line-count
 sub-read-line c = search rules
 
-part-read-line-start : tie.Need-slice-bounds-read-line-start
+part-read-line-start : tie.Need-slice_bounds-read_line-start
 part-read-line-start c = search rules
 
-part-read-line-end : tie.Need-slice-bounds-read-line-end
+part-read-line-end : tie.Need-slice_bounds-read_line-end
 part-read-line-end c =
     let s = start c in
-    omega (arith, c.line-end.ensures, some s, run-le not_lf (drop (at s) (text s)), length-drop (at s) (text s))
+    omega (arith, c.line_end-end.ensures, some s, run-le not_lf (drop (at s) (text s)), length-drop (at s) (text s))
 
-read-line-requires : tie.Need-read-line-requires
+read-line-requires : tie.Need-read_line-requires
 read-line-requires c κs =
-    let e = c.before.before.before in
-    let s = start e in
-    let p = s.pre.1 in
+    let s = start c.before.before.before in
+    let p = s.requires.1 in
     let q = p.1 in (
-      s.pre.0,
+      s.requires.0,
       (
-        (omega (arith, line-inside e, few_bytes s), (omega (arith, few-lines s), (p.0.1.1.1, q.0.0))),
-        ((q.0.1.1, q.0.1.0, q.0.1.2), λ w. subst (λ (l : List ℕ). RoomIn (read_line (lim s) (z s) l) (place s).first (length s.args.tokens.now)) (sym (line-is e)) (q.1 w).1),
+        (omega (arith, line-inside c.before.before.before, few_bytes s), (omega (arith, few-lines s), (p.0.1.1.1, q.0.0))),
+        ((q.0.1.1, q.0.1.0, q.0.1.2), λ w. subst (λ (l : List ℕ). RoomIn (read_line (lim s) (z s) l) (place s).first (length s.args.tokens.now)) (sym (line-is c.before.before.before)) (q.1 w).1),
       ),
     )
 
-enum-known-n : tie.Need-enum-known-n
+enum-known-n : tie.Need-enum_known-n
 enum-known-n c = search rules
 
-past-lf-requires : tie.Need-past-lf-requires
+past-lf-requires : tie.Need-past_lf-requires
 past-lf-requires c κs = search rules
 
-enum-known-f : tie.Need-enum-known-f
+enum-known-f : tie.Need-enum_known-f
 enum-known-f c = search rules
 
-failure-record-requires : tie.Need-failure-record-requires
+failure-record-requires : tie.Need-failure_record-requires
 failure-record-requires c κs =
     let e = ended (fails-at c) in
     let s = start e in
     (omega (arith, failure-inside (lim s) (z s) (line e) _ (fails-as c), line-inside e, few_bytes s), omega (arith, few-lines s))
 
-enum-known-refusal : tie.Need-enum-known-refusal
+enum-known-refusal : tie.Need-enum_known-refusal
 enum-known-refusal c = search rules
 
-add-t33 : tie.Need-overflow-add-t33
+add-t33 : tie.Need-overflow_add-result
 add-t33 c = omega (arith, few-lines (here (over-at c.before)))
 
-same_length : tie.Need-same-length
+same_length : tie.Need-shape_of-lines-in-Reads
 same_length c = search rules
 
-same-length-2 : tie.Need-same-length-2
+same-length-2 : tie.Need-shape_of-tokens-in-Reads
 same-length-2 c = search rules
 
-same-length-3 : tie.Need-same-length-3
+same-length-3 : tie.Need-shape_of-widths-in-Reads
 same-length-3 c = search rules
 
-returns : tie.Need-returns
+returns : tie.Need-returns-in-Reads
 returns c =
     let r = reads_at c in
     let s = here r in
-    let known = c.before.before.n.given.1 in
-    let x = line_read _ _ (reply r) r.read-line.ensures.0 _ _ known in
-    let next = c.past-lf.ensures ∙ next_start (text s) (at s) _ (some s) (ended r).line-end.ensures in
-    ((x.0, reply-is r ∙ x.1, x.2, next, subst LevelsWithin known r.read-line.ensures.1.0), written r)
+    let known = c.in-Reads.is in
+    let x = line_read _ _ (reply r) r.read_line.ensures.0 _ _ known in
+    let next = c.past_lf.ensures ∙ next_start (text s) (at s) _ (some s) (ended r).line_end-end.ensures in
+    ((x.0, reply-is r ∙ x.1, x.2, next, subst LevelsWithin known r.read_line.ensures.1.0), written r)
 
-same-length-4 : tie.Need-same-length-4
+same-length-4 : tie.Need-shape_of-lines-in-Fails
 same-length-4 c = search rules
 
-same-length-5 : tie.Need-same-length-5
+same-length-5 : tie.Need-shape_of-tokens-in-Fails
 same-length-5 c = search rules
 
-same-length-6 : tie.Need-same-length-6
+same-length-6 : tie.Need-shape_of-widths-in-Fails
 same-length-6 c = search rules
 
-returns-2 : tie.Need-returns-2
+returns-2 : tie.Need-returns-in-Fails
 unfolding halt_refusal
 returns-2 c =
     let r = fails-at c.before in
-    ((_, reply-is r ∙ fails-as c.before, ap Fails c.failure-record.ensures), written r)
+    ((_, reply-is r ∙ fails-as c.before, ap Fails c.failure_record.ensures), written r)
 
-same-length-7 : tie.Need-same-length-7
+same-length-7 : tie.Need-shape_of-lines-in-OverLimit
 same-length-7 c = search rules
 
-same-length-8 : tie.Need-same-length-8
+same-length-8 : tie.Need-shape_of-tokens-in-OverLimit
 same-length-8 c = search rules
 
-same-length-9 : tie.Need-same-length-9
+same-length-9 : tie.Need-shape_of-widths-in-OverLimit
 same-length-9 c = search rules
 
-returns-3 : tie.Need-returns-3
+returns-3 : tie.Need-returns-in-OverLimit
 unfolding halt_refusal
 returns-3 c =
     let r = over-at c.before in
-    ((_, reply-is r ∙ line-over _ _ (reply r) r.read-line.ensures.0 _ c.before.before.refusal.given.1, refl), written r)
+    ((_, reply-is r ∙ line-over _ _ (reply r) r.read_line.ensures.0 _ c.in-OverLimit.is, refl), written r)
 
-pub next-line-spec : {M : Type 1} → statement M
-next-line-spec =
+pub next_line_spec : {M : Type 1} → statement M
+next_line_spec =
     tie.close
     (tie.spec
     put-line-requires
