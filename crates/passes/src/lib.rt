@@ -1,4 +1,6 @@
 // A pass over the lines of a text, which counts and, where it writes, stores the records.
+#![tactic(auto)]
+
 ghost use Rattle.std.specs.Prelude.{◌≡◌, true, ◌≤◌, length};
 ghost use Rattle.rules.specs.Line.{initial};
 ghost use Rattle.rules.specs.Reading.{lines_of, read_from};
@@ -10,7 +12,7 @@ ghost use Rattle.laws.specs.Puts.{put_if};
 ghost use Rattle.passes.specs.Passes.{pass_of, lines_in, tokens_in, RoomIn};
 
 // What a pass gives: the numbers of lines and tokens; or why the text does not read.
-#[derive(Drop)]
+#[derive(Clone, Copy)]
 pub enum Pass {
     Records(usize, usize),
     Refused(refusals::Unread),

@@ -1,4 +1,6 @@
 // A text read whole: it is counted, then its records are stored.
+#![tactic(auto)]
+
 ghost use Rattle.std.specs.Prelude.{◌≡◌, ◌≤◌, length};
 ghost use Rattle.rules.specs.Line.{initial};
 ghost use Rattle.rules.specs.Reading.{lines_of, read_from};
@@ -11,7 +13,7 @@ ghost use Rattle.passes.specs.Passes.{Counted};
 ghost use Rattle.reading.specs.Answers.{read_numbers};
 
 // The answer of `read`: bytes, lines and tokens; or why the text does not read, or 5 for one of the two buffers with its least length.
-#[derive(Drop)]
+#[derive(Clone, Copy)]
 pub enum ReadAnswer {
     Records(usize, usize, usize),
     Refused(refusals::Unread),

@@ -1,4 +1,6 @@
 // Lines read from a state on, up to the stop rule against old line records.
+#![tactic(auto)]
+
 ghost use Rattle.std.specs.Prelude.{◌≡◌, true, ◌+◌, ◌-◌, ◌*◌, ◌≤◌, ◌<◌, length};
 ghost use Rattle.std.proofs.lemmas.List.Edits.{sets};
 ghost use Rattle.rules.specs.Reading.{lines_of, read_from, lines_read};
@@ -14,7 +16,7 @@ ghost use Rattle.rereading.specs.Rewrites.{RoomFrom, FewFrom, MayPut, MayWrite, 
 
 // The stop rule of an edit, by the old records: how many lines they have, the first one to compare with, where the replaced bytes end, and
 // where the kept tail begins in the edited text.
-#[derive(Drop)]
+#[derive(Clone, Copy)]
 pub struct StopRule {
     pub count: usize,
     pub from: usize,
@@ -83,7 +85,7 @@ fn stops_at(
 
 // What reading on gives: a stop after so many lines, tokens and bytes, at an old line; the end after so many lines and tokens, in a
 // state; or why the next line does not read.
-#[derive(Drop)]
+#[derive(Clone, Copy)]
 pub enum Reread {
     Stops(usize, usize, usize, usize),
     Ends(usize, usize, records::State),
@@ -147,7 +149,7 @@ pub fn read_on(
 }
 
 // What reading to the end gives: so many lines and tokens, and the state after them; or why a line does not read.
-#[derive(Drop)]
+#[derive(Clone, Copy)]
 pub enum ReadToEnd {
     Ends(usize, usize, records::State),
     Refused(refusals::Unread),

@@ -18,46 +18,43 @@ use Rattle.passes.proofs.open_text.Statement.{statement}
 use Rattle.passes.proofs.open_text.Tie as tie
 
 -- The tests' answer.
-module _ (x : tie.After-test-text) where
+module _ (x : tie.After-test_text) where
   abbrev start : tie.Start
   start = x.before.before
 
   abbrev lim : Limits
   lim = limits_of start.args.limits
 
-  test-is : (r : TextTest) → x.test-text.result ≡ r → test_of lim start.args.text.now ≡ r
-  test-is r e = sym x.test-text.ensures ∙ e
+  test-is : (r : TextTest) → x.test_text.result ≡ r → test_of lim start.args.text.now ≡ r
+  test-is r e = sym x.test_text.ensures ∙ e
 
-  fresh-is : (r : TextTest) → x.test-text.result ≡ r → fresh_reading_by lim start.args.text.now ≡ fresh_after lim start.args.text.now r
+  fresh-is : (r : TextTest) → x.test_text.result ≡ r → fresh_reading_by lim start.args.text.now ≡ fresh_after lim start.args.text.now r
   fresh-is r e = fresh_after_lem lim start.args.text.now r (test-is r e)
 
-test-text-requires : tie.Need-test-text-requires
+test-text-requires : tie.Need-test_text-requires
 test-text-requires c κs = search rules
 
-enum_told : tie.Need-enum-told
+enum_told : tie.Need-enum_told-1
 enum_told c = search rules
 
-count-lines-requires : tie.Need-count-lines-requires
+count-lines-requires : tie.Need-count_lines-requires
 count-lines-requires c κs =
-    let x = c.before.before in
-    let short : length (start x).args.text.now ≤ (start x).args.limits.bytes = passes-short (lim x) (start x).args.text.now (test-is x Passes c.enum_told.given.1) in
-    (omega (arith, short, (start x).requires.0), (start x).requires.1)
+    let short : length (start c.before.before).args.text.now ≤ (start c.before.before).args.limits.bytes = passes-short (lim c.before.before) (start c.before.before).args.text.now (test-is c.before.before Passes c.in-Passes.is) in
+    (omega (arith, short, (start c.before.before).requires.0), (start c.before.before).requires.1)
 
-enum-known-u : tie.Need-enum-known-u
+enum-known-u : tie.Need-enum_known-u
 enum-known-u c = search rules
 
-returns : tie.Need-returns
+returns : tie.Need-returns-in-Passes
 returns c =
-    let x = c.before.before.before in
-    c.count-lines.ensures ∙ ap pass_of (sym (fresh-is x Passes c.before.enum_told.given.1))
+    c.count_lines.ensures ∙ ap pass_of (sym (fresh-is c.before.before.before Passes c.in-Passes.is))
 
-returns-2 : tie.Need-returns-2
+returns-2 : tie.Need-returns-in-Refused
 returns-2 c =
-    let x = c.before.before.before in
-    let u = c.before.u.given.0.0 in
-    ap PassVariants.Refused (sym (unread-there u)) ∙ ap pass_of (sym (fresh-is x (Refused u) c.before.u.given.1))
+    let u = c.in-Refused.u in
+    ap PassVariants.Refused (sym (unread-there u)) ∙ ap pass_of (sym (fresh-is c.before (Refused u) c.in-Refused.is))
 
-pub open-text-spec : {M : Type 1} → statement M
-open-text-spec =
+pub open_text_spec : {M : Type 1} → statement M
+open_text_spec =
     tie.close
     (tie.spec test-text-requires enum_told count-lines-requires enum-known-u returns returns-2)

@@ -17,58 +17,52 @@ use Rattle.reading.proofs.read_within.Statement.{statement}
 use Rattle.reading.proofs.read_within.Tie as tie
 
 -- The tests' answer.
-module _ (x : tie.After-test-text) where
+module _ (x : tie.After-test_text) where
   abbrev start : tie.Start
   start = x.before.before.before.before
 
   abbrev lim : Limits
   lim = limits_of start.args.limits
 
-  test-is : (r : TextTest) → x.test-text.result ≡ r → test_of lim start.args.text.now ≡ r
-  test-is r e = sym x.test-text.ensures ∙ e
+  test-is : (r : TextTest) → x.test_text.result ≡ r → test_of lim start.args.text.now ≡ r
+  test-is r e = sym x.test_text.ensures ∙ e
 
-  fresh-is : (r : TextTest) → x.test-text.result ≡ r → fresh_reading_by lim start.args.text.now ≡ fresh_after lim start.args.text.now r
+  fresh-is : (r : TextTest) → x.test_text.result ≡ r → fresh_reading_by lim start.args.text.now ≡ fresh_after lim start.args.text.now r
   fresh-is r e = fresh_after_lem lim start.args.text.now r (test-is r e)
 
-test-text-requires : tie.Need-test-text-requires
+test-text-requires : tie.Need-test_text-requires
 test-text-requires c κs = search rules
 
-enum_told : tie.Need-enum-told
+enum_told : tie.Need-enum_told-1
 enum_told c = search rules
 
-read-lines-requires : tie.Need-read-lines-requires
+read-lines-requires : tie.Need-read_lines-requires
 read-lines-requires c κs =
-    let e = c.before.before in
-    let x = e.before.before in
-    let short : length (start x).args.text.now ≤ (start x).args.limits.bytes = passes-short (lim x) (start x).args.text.now (test-is x Passes e.enum_told.given.1) in
-    (omega (arith, short, (start x).requires.0), (start x).requires.1)
+    let short : length (start c.before.before.before.before).args.text.now ≤ (start c.before.before.before.before).args.limits.bytes = passes-short (lim c.before.before.before.before) (start c.before.before.before.before).args.text.now (test-is c.before.before.before.before Passes c.in-Passes.is) in
+    (omega (arith, short, (start c.before.before.before.before).requires.0), (start c.before.before.before.before).requires.1)
 
-enum-known-u : tie.Need-enum-known-u
+enum-known-u : tie.Need-enum_known-u
 enum-known-u c = search rules
 
-same_length : tie.Need-same-length
+same_length : tie.Need-shape_of-lines
 same_length c = search rules
 
-same-length-2 : tie.Need-same-length-2
+same-length-2 : tie.Need-shape_of-tokens
 same-length-2 c = search rules
 
-returns : tie.Need-returns
+returns : tie.Need-returns-in-Passes
 returns c =
-    let l = c.before.before.before.before in
-    let e = l.before.before.before in
-    let x = e.before.before in
-    let a = (start x).args in
-    read_as _ _ a.lines.now a.tokens.now l.read-lines.result _ _ (fresh-is x Passes e.enum_told.given.1) l.read-lines.ensures
+    let a = (start c.before.before.before.before.before.before.before.before.before).args in
+    read_as _ _ a.lines.now a.tokens.now c.read_lines.result _ _ (fresh-is c.before.before.before.before.before.before.before.before.before Passes c.in-Passes.is) c.read_lines.ensures
 
-returns-2 : tie.Need-returns-2
+returns-2 : tie.Need-returns-in-Refused
 returns-2 c =
-    let x = c.before.before.before in
-    let a = (start x).args in
-    let u = c.before.u.given.0.0 in
-    refused-answer _ a.lines.now a.tokens.now u (fresh-is x (Refused u) c.before.u.given.1)
+    let a = (start c.before).args in
+    let u = c.in-Refused.u in
+    refused-answer _ a.lines.now a.tokens.now u (fresh-is c.before (Refused u) c.in-Refused.is)
 
-pub read-within-spec : {M : Type 1} → statement M
-read-within-spec =
+pub read_within_spec : {M : Type 1} → statement M
+read_within_spec =
     tie.close
     (tie.spec
     test-text-requires

@@ -27,76 +27,73 @@ module _ (s : tie.Start) where
   read = read_from lim initial (lines_of text)
 
   few_bytes : length text ≤ 1_048_576
-  few_bytes = s.pre.1.0.0
+  few_bytes = s.requires.1.0.0
 
   fit : lim.levels ≤ max_levels
-  fit = s.pre.1.0.2
+  fit = s.requires.1.0.2
 
   counted : Counted s.args.m s.args.k read
-  counted = s.pre.1.1
+  counted = s.requires.1.1
 
   small : (s.args.m ≤ 1_048_576) × (s.args.k ≤ 2_097_152)
   small = counts-small lim text s.args.lines.now s.args.tokens.now s.args.m s.args.k few_bytes fit read refl counted
 
-abbrev start : tie.After-slice-known3 → tie.Start
+abbrev start : tie.After-slice_known-3-1 → tie.Start
 start c = c.before.before.before.before
 
-add-if1 : tie.Need-overflow-add-if1
+add-if1 : tie.Need-overflow_add-m
 add-if1 c = omega (arith, small (start c))
 
-mul-if1 : tie.Need-overflow-mul-if1
+mul-if1 : tie.Need-overflow_mul-m
 mul-if1 c = omega (arith, small (start c))
 
-add-t13 : tie.Need-overflow-add-t13
+add-t13 : tie.Need-overflow_add-result
 add-t13 c = omega (arith, small (start c.before))
 
-mul-t14 : tie.Need-overflow-mul-t14
+mul-t14 : tie.Need-overflow_mul-result
 mul-t14 c = omega (arith, small (start c.before))
 
-returns : tie.Need-returns
+returns : tie.Need-returns-then-lines-m
 returns c =
     let s = start c.before in
     let a = s.args in
-    lines-answer (lim s) (text s) a.lines.now a.tokens.now a.m a.k (few_bytes s) (fit s) (read s) refl (counted s) c.if1.true
+    lines-answer (lim s) (text s) a.lines.now a.tokens.now a.m a.k (few_bytes s) (fit s) (read s) refl (counted s) c.if-lines-m.true
 
-mul-if2 : tie.Need-overflow-mul-if2
+mul-if2 : tie.Need-overflow_mul-k
 mul-if2 c = omega (arith, small (start c.before))
 
-mul-t15 : tie.Need-overflow-mul-t15
+mul-t15 : tie.Need-overflow_mul-result-then-tokens-k
 mul-t15 c = omega (arith, small (start c.before.before))
 
-returns-2 : tie.Need-returns-2
+returns-2 : tie.Need-returns-then-tokens-k
 returns-2 c =
     let s = start c.before.before in
     let a = s.args in
-    tokens-answer (lim s) (text s) a.lines.now a.tokens.now a.m a.k (few_bytes s) (fit s) (read s) refl (counted s) c.before.if1.false c.if2.true
+    tokens-answer (lim s) (text s) a.lines.now a.tokens.now a.m a.k (few_bytes s) (fit s) (read s) refl (counted s) c.if-lines-m.false c.if-tokens-k.true
 
-pass-lines-requires : tie.Need-pass-lines-requires
+pass-lines-requires : tie.Need-pass_lines-requires
 pass-lines-requires c κs =
-    let e = c.before.before.before in
-    let s = start e.before.before in
+    let s = start c.before.before.before.before.before in
     let a = s.args in
-    (s.pre.0, (s.pre.1.0, λ w. room (lim s) (text s) a.lines.now a.tokens.now a.m a.k (few_bytes s) (fit s) (read s) refl (counted s) e.before.if1.false e.if2.false))
+    (s.requires.0, (s.requires.1.0, λ w. room (lim s) (text s) a.lines.now a.tokens.now a.m a.k (few_bytes s) (fit s) (read s) refl (counted s) c.if-lines-m.false c.if-tokens-k.false))
 
-same_length : tie.Need-same-length
+same_length : tie.Need-shape_of-lines
 same_length c = search rules
 
-same-length-2 : tie.Need-same-length-2
+same-length-2 : tie.Need-shape_of-tokens
 same-length-2 c = search rules
 
-same-length-3 : tie.Need-same-length-3
+same-length-3 : tie.Need-shape_of-widths
 same-length-3 c = search rules
 
-returns-3 : tie.Need-returns-3
+returns-3 : tie.Need-returns
 returns-3 c =
-    let r = c.before.before.before.before.before.before in
-    let e = r.before.before.before.before in
-    let s = start e.before.before in
+    let s = start c.before.before.before.before.before.before.before.before.before.before.before.before in
     let a = s.args in
-    records-answer (lim s) (text s) a.lines.now a.tokens.now a.m a.k (few_bytes s) (fit s) (read s) refl (counted s) e.before.if1.false e.if2.false _ _ r.pass-lines.ensures.1.0 r.pass-lines.ensures.1.1
+    records-answer (lim s) (text s) a.lines.now a.tokens.now a.m a.k (few_bytes s) (fit s) (read s) refl (counted s) c.if-lines-m.false c.if-tokens-k.false _ _ c.pass_lines.ensures.1.0 c.pass_lines.ensures.1.1
 
-pub store-records-spec : {M : Type 1} → statement M
-store-records-spec =
+pub store_records_spec : {M : Type 1} → statement M
+store_records_spec =
     tie.close
     (tie.spec
     add-if1

@@ -26,71 +26,68 @@ module _ (s : tie.Start) where
   read = read_from lim (state_of s.args.start s.args.widths.now) (lines_of s.args.text.now)
 
   abbrev may : let a = s.args in MayWrite a.place.write read a.place.line a.place.first (length a.lines.now) (length a.tokens.now)
-  may = record { room = λ _. s.pre.1.1.1.1.1; few = inr s.pre.1.1.1.1.0 }
+  may = record { room = λ _. s.requires.1.1.1.1.1; few = inr s.requires.1.1.1.1.0 }
 
 -- The text is read to its end.
-module _ (r : tie.After-read-to-end) where
+module _ (r : tie.After-read_to_end) where
   abbrev start : tie.Start
   start = r.before.before.before.before.before.before.before.before
 
   abbrev Gave : ReadToEnd → Type 0
-  Gave = let p = start.args.place in EndIs (read start) p.start p.line r.read-to-end.last.1.1.1.1.1.1.0
+  Gave = let p = start.args.place in EndIs (read start) p.start p.line r.read_to_end.new.widths
 
-  gave : (y : ReadToEnd) → r.read-to-end.result ≡ y → Gave y
-  gave y e = subst Gave e r.read-to-end.ensures.0
+  gave : (y : ReadToEnd) → r.read_to_end.result ≡ y → Gave y
+  gave y e = subst Gave e r.read_to_end.ensures.0
 
-read-to-end-requires : tie.Need-read-to-end-requires
+read-to-end-requires : tie.Need-read_to_end-requires
 read-to-end-requires c κs =
-    let s = c.before.before.before.before.before.before.before in
-    (s.requires.0, (s.requires.1.0, (s.requires.1.1.0, may s)))
+    (c.requires.0, (c.requires.1.0, (c.requires.1.1.0, may c.before.before.before.before.before.before.before)))
 
-enum-known-s : tie.Need-enum-known-s
+enum-known-s : tie.Need-enum_known-s
 enum-known-s c = search rules
 
-enum-known-u : tie.Need-enum-known-u
+enum-known-u : tie.Need-enum_known-u
 enum-known-u c = search rules
 
-same_length : tie.Need-same-length
+same_length : tie.Need-shape_of-lines-in-Ends
 same_length c = search rules
 
-same-length-2 : tie.Need-same-length-2
+same-length-2 : tie.Need-shape_of-tokens-in-Ends
 same-length-2 c = search rules
 
-same-length-3 : tie.Need-same-length-3
+same-length-3 : tie.Need-shape_of-widths-in-Ends
 same-length-3 c = search rules
 
-returns : tie.Need-returns
+returns : tie.Need-returns-in-Ends
 returns c =
-    let r = c.before.before.before.before.before.before.before.before.before in
-    let a = (start r).args in
-    let x = r.read-to-end.new.1.1 in
-    let es = lines_read (read (start r)) in
-    let g = gave r _ c.before.s.given.1 in (
+    let a = (start c.before.before.before.before.before.before.before).args in
+    let x = c.read_to_end.new in
+    let es = lines_read (read (start c.before.before.before.before.before.before.before)) in
+    let g = gave c.before.before.before.before.before.before.before _ c.in-Ends.is in (
       (reached g.1, g.4),
       subst
-          (λ (b : Bool). (x.0 ≡ put_if b a.lines.now (line_size * a.place.line) (line_records a.place.start a.place.first es))
-          × (x.1.0 ≡ put_if b a.tokens.now (token_size * a.place.first) (token_records a.place.start (a.place.line + 1) es)))
-          (start r).requires.1.1.1.0
-          r.read-to-end.ensures.1,
+          (λ (b : Bool). (x.lines ≡ put_if b a.lines.now (line_size * a.place.line) (line_records a.place.start a.place.first es))
+          × (x.tokens ≡ put_if b a.tokens.now (token_size * a.place.first) (token_records a.place.start (a.place.line + 1) es)))
+          (start c.before.before.before.before.before.before.before).requires.1.1.1.0
+          c.read_to_end.ensures.1,
     )
 
-same-length-4 : tie.Need-same-length-4
+same-length-4 : tie.Need-shape_of-lines-in-Refused
 same-length-4 c = search rules
 
-same-length-5 : tie.Need-same-length-5
+same-length-5 : tie.Need-shape_of-tokens-in-Refused
 same-length-5 c = search rules
 
-same-length-6 : tie.Need-same-length-6
+same-length-6 : tie.Need-shape_of-widths-in-Refused
 same-length-6 c = search rules
 
-returns-2 : tie.Need-returns-2
+returns-2 : tie.Need-returns-in-Refused
 returns-2 c =
-    let r = c.before.before.before.before.before.before.before.before.before in
-    let s = start r in
-    absurd (may_read (may s) (gave r _ c.before.u.given.1).2 s.pre.1.1.1.0)
+    let s = start c.before.before.before.before.before.before.before in
+    absurd (may_read (may s) (gave c.before.before.before.before.before.before.before _ c.in-Refused.is).2 s.requires.1.1.1.0)
 
-pub rewrite-lines-spec : {M : Type 1} → statement M
-rewrite-lines-spec =
+pub rewrite_lines_spec : {M : Type 1} → statement M
+rewrite_lines_spec =
     tie.close
     (tie.spec
     read-to-end-requires
