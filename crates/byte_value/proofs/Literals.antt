@@ -9,7 +9,8 @@ use native.Mathlib.Omega.{arith}
 use lib.Dec.{eqb}
 use lib.ListN.{length, get_or, take, drop}
 use borrow.Author.Tests.{eq-eqb, ne_eqb}
-use Rattle.rules.specs.Lists.{if◌then◌else◌, begins, last_d}
+use Rattle.std.specs.Prelude.{if◌then◌else◌}
+use Rattle.rules.specs.Lists.{begins, last_d}
 use Rattle.rules.specs.ByteValue.{ascii_value, escape_value, hex_pair, inner_value, closed_value, literal_value}
 
 -- Between the quotes.

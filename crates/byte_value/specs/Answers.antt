@@ -1,8 +1,7 @@
 -- The value in words, as the reply of the rules has it.
 -- Assumes nothing.
-use Rattle.std.specs.Prelude.{ℕ, List, [], ◌∷◌}
+use Rattle.std.specs.Prelude.{ℕ, List, [], ◌∷◌, if◌then◌else◌}
 use Rattle.std.proofs.Math.Option.{Option}
-use Rattle.rules.specs.Lists.{if◌then◌else◌}
 use Rattle.rules.specs.Replies.{Reply, numbered_unread, accepted}
 use Rattle.rules.specs.Tables.{is_hex_digit}
 use Rattle.rules.specs.ByteValue.{hex_value, value_words}

@@ -1,10 +1,12 @@
 // The value of a byte literal.
+#![tactic(auto)]
+
 ghost use Rattle.std.specs.Prelude.{◌≡◌};
 ghost use Rattle.rules.specs.ByteValue.{ascii_value, escape_value, hex_pair, inner_value, closed_value, literal_value, value_reply};
 ghost use Rattle.byte_value.specs.Answers.{value_numbers, option_reply, digit_or};
 
 // The value of a byte literal: a value, or none; or why the text is refused, 1 or 2.
-#[derive(Drop)]
+#[derive(Clone, Copy)]
 pub enum Value {
     Is(u32),
     Nothing,
@@ -38,6 +40,7 @@ fn hex_digit(b: u8) -> u32
 }
 
 // The value of `\x` with these two bytes: two hex digits up to 7F, or `+` and a hex digit.
+#[tactic(auto, using(crate::proofs::Digits::hex_pairs), unfolding(rules::specs::ByteValue::value_words))]
 fn hex_pair(high: u8, low: u8) -> Value
     ensures { value_numbers result ≡ option_reply (hex_pair high low) }
 {

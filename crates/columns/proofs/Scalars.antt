@@ -1,6 +1,6 @@
 -- Scalars one after the other: those of two well-formed texts in a row, and the bytes of one.
 -- Assumes nothing.
-use Prim.Native.Nat.{ℕ, suc, ◌+◌, ◌≤◌}
+use Prim.Native.Nat.{ℕ, suc, ◌≤◌}
 use mathlib.Core.Path.{◌≡◌, refl, sym, ap, ◌∙◌}
 use mathlib.Core.Bool.{Bool, true, false}
 use mathlib.Core.List.{List, [], ◌∷◌, ◌++◌, append-nil, append_assoc}
@@ -10,7 +10,8 @@ use lib.Dec.{leb, ltb}
 use lib.ListN.{length, take, drop, take-append-drop, drop_of_length-le}
 use lib.Seq.{drop-append-le, take-append-le, length-take-le}
 use borrow.Author.Tests.{leb-true, ltb-true, ne_eqb}
-use Rattle.rules.specs.Lists.{if◌then◌else◌, within, every}
+use Rattle.std.specs.Prelude.{if◌then◌else◌}
+use Rattle.rules.specs.Lists.{within, every}
 use Rattle.rules.specs.Utf8.{Range, Row, table, following, in_ranges, size_by, scalar_size, WellFormed, nil, scalar, scalars_from, scalars_of}
 use Rattle.rules.specs.Reading.{count_lf}
 use Rattle.rules.proofs.ListLaws.{and_left, and_right}

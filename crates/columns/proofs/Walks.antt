@@ -8,7 +8,8 @@ use native.Mathlib.Omega.{arith}
 use lib.ListN.{length, get_or, take, drop, length-append, length-drop}
 use lib.Seq.{drop-cons, drop-drop, take-add, length-take-le}
 use borrow.Author.Tests.{eq-eqb, ne_eqb, eqb-true, eqb-false}
-use Rattle.rules.specs.Lists.{if◌then◌else◌, any, elem}
+use Rattle.std.specs.Prelude.{if◌then◌else◌}
+use Rattle.rules.specs.Lists.{any, elem}
 use Rattle.rules.specs.Utf8.{scalar_size, WellFormed, nil, scalars_from, scalars_of}
 use Rattle.rules.specs.Reading.{is_lf}
 use Rattle.rules.specs.Replies.{numbered, refused_if, first_of, unless}

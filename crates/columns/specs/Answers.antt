@@ -1,7 +1,6 @@
 -- The column in words, as the reply of the rules has it.
 -- Assumes nothing.
-use Rattle.std.specs.Prelude.{ℕ, suc, List, [], ◌∷◌}
-use Rattle.rules.specs.Lists.{if◌then◌else◌}
+use Rattle.std.specs.Prelude.{ℕ, suc, List, [], ◌∷◌, if◌then◌else◌}
 use Rattle.rules.specs.Reading.{is_lf}
 use Rattle.rules.specs.Replies.{Reply, outside, numbered_unread, numbered, accepted, refused_if, first_of, unless}
 use Rattle.rules.specs.Column.{is_outside, panel_column}

@@ -1,10 +1,12 @@
 // The panel column of an offset.
+#![tactic(auto)]
+
 ghost use Rattle.std.specs.Prelude.{◌≡◌, ◌≤◌, length};
 ghost use Rattle.rules.specs.Column.{column_reply};
 ghost use Rattle.columns.specs.Answers.{column_numbers, place_reply, count_after};
 
 // The panel column of an offset; or why the text is refused, 1 or 2; or 6.
-#[derive(Drop)]
+#[derive(Clone, Copy)]
 pub enum Column {
     At(usize),
     Refused(refusals::Unread),

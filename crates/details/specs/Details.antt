@@ -1,7 +1,7 @@
 -- The parts of a detail's text.
 -- Assumes nothing.
-use Rattle.std.specs.Prelude.{ℕ, Bool, true, false, List, ◌++◌, ltb, eqb, take, drop}
-use Rattle.rules.specs.Lists.{if◌then◌else◌, ascii}
+use Rattle.std.specs.Prelude.{ℕ, Bool, true, false, List, ◌++◌, ltb, eqb, take, drop, if◌then◌else◌}
+use Rattle.rules.specs.Lists.{ascii}
 use Rattle.rules.specs.Failure.{detail_of}
 use Rattle.rules.specs.Report.{shown}
 

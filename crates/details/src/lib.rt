@@ -1,4 +1,6 @@
 // The text of a failure's detail. A pass that does not write only counts.
+#![tactic(auto)]
+
 ghost use Rattle.std.specs.Prelude.{◌≡◌, [], ◌∷◌, ◌≤◌, ◌<◌};
 ghost use Rattle.rules.specs.Utf8.{later_byte, encode};
 ghost use Rattle.rules.specs.Failure.{detail_of};

@@ -1,17 +1,19 @@
 -- The bytes of the excerpt's fields: numbers at least two wide, and a line without its LF.
 -- Assumes nothing.
-use Prim.Native.Nat.{ℕ, zero, suc, ◌-◌, ◌/◌, ◌≤◌, ◌<◌}
-use mathlib.Core.Path.{◌≡◌, refl, ap}
+use Prim.Native.Nat.{ℕ, zero, suc, ◌+◌, ◌-◌, ◌/◌, ◌≤◌, ◌<◌}
+use mathlib.Core.Path.{◌≡◌, refl, ap, ◌∙◌}
 use mathlib.Core.Bool.{Bool, true, false, not}
 use mathlib.Core.List.{List, [], ◌∷◌}
+use mathlib.Core.Logic.{◌≢◌}
 use native.Mathlib.Omega.{arith}
 use lib.Dec.{ltb}
-use lib.ListN.{length, take, drop, replicate, length-drop}
+use lib.ListN.{length, get_or, take, drop, replicate, length-drop}
 use lib.Seq.{take_all}
 use borrow.Author.Tests.{eq-eqb, ne_eqb}
 use Rattle.rules.specs.Lists.{run, concat}
 use Rattle.rules.specs.Reading.{not_lf, content}
 use Rattle.rules.specs.Report.{places_from, decimal, aligned}
+use Rattle.rules.proofs.ListLaws.{run-pass, run-stop, run_end}
 use Rattle.print.proofs.Prints.{places-one, places-more, length_decimal}
 
 -- Numbers, at least two wide.
@@ -40,13 +42,17 @@ aligned-more n h =
 
 -- A line's end.
 
-pub lf_stops : (b : ℕ) → b ≡ 10 → not_lf b ≡ false
+-- the bytes before the first LF, from each index on
+pub ends_at_lf : (l : List ℕ) (i : ℕ) → i < length l → get_or l i 0 ≡ 10 → run not_lf (drop i l) ≡ 0
 unfolding not_lf
-lf_stops b e = ap not (eq-eqb b 10 e)
+ends_at_lf l i h e = run-stop not_lf l i h (ap not (eq-eqb (get_or l i 0) 10 e))
 
-pub others-pass : (b : ℕ) → (b ≡ 10 → ⊥) → not_lf b ≡ true
+pub goes_on : (l : List ℕ) (i : ℕ) → i < length l → get_or l i 0 ≢ 10 → run not_lf (drop i l) ≡ 1 + run not_lf (drop (i + 1) l)
 unfolding not_lf
-others-pass b n = ap not (ne_eqb b 10 n)
+goes_on l i h e = run-pass not_lf l i h (ap not (ne_eqb (get_or l i 0) 10 e)) ∙ omega arith
+
+pub ends_at_end : (l : List ℕ) (i : ℕ) → length l ≤ i → run not_lf (drop i l) ≡ 0
+ends_at_end l i h = run_end not_lf l i h
 
 -- the rest of a text, cut off where the text ends
 pub rest-content : (t : List ℕ) (start : ℕ) → concat (content (take (length t - start) (drop start t)) ∷ []) ≡ concat (content (drop start t) ∷ [])

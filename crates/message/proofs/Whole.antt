@@ -1,7 +1,6 @@
 -- The whole message: its fields, and that it is small enough.
 -- Assumes nothing.
 use Prim.Native.Nat.{ℕ, zero, suc, ◌+◌, ◌-◌, ◌/◌, ◌≤◌, ◌<◌, pred}
-use Prim.Native.Char.{code}
 use mathlib.Core.Path.{◌≡◌, refl, ap, ◌∙◌}
 use mathlib.Core.Bool.{Bool, true, false}
 use mathlib.Core.List.{List, [], ◌∷◌, ◌++◌}
@@ -9,7 +8,8 @@ use native.Mathlib.Omega.{arith}
 use lib.Dec.{ltb}
 use lib.ListN.{length, drop, replicate, length-append, length-take, length-drop, length-replicate}
 use Rattle.laws.specs.Puts.{put_if}
-use Rattle.rules.specs.Lists.{if◌then◌else◌, ascii, run, concat}
+use Rattle.std.specs.Prelude.{if◌then◌else◌}
+use Rattle.rules.specs.Lists.{ascii, run, concat}
 use Rattle.rules.specs.Utf8.{later_byte, encode}
 use Rattle.rules.specs.Failure.{Shows, nothing, scalar, hex_digits, details, detail_of, FailureRecord}
 use Rattle.rules.specs.Reading.{not_lf, content}

@@ -1,4 +1,6 @@
 // A failure's message, written field after field. A pass that does not write only counts.
+#![tactic(auto)]
+
 ghost use Rattle.std.specs.Prelude.{◌≡◌, true, [], ◌∷◌, ◌+◌, ◌≤◌, ◌<◌, length};
 ghost use Rattle.laws.specs.Puts.{put_if};
 ghost use Rattle.rules.specs.Lists.{run};
@@ -42,6 +44,7 @@ fn put_aligned(out: &mut [u8], write: bool, at: usize, n: u32) -> usize
 }
 
 // The bytes before the first LF.
+#[tactic(auto, using(crate::proofs::Excerpts::ends_at_lf, crate::proofs::Excerpts::goes_on, crate::proofs::Excerpts::ends_at_end))]
 fn content_size(line: &[u8]) -> usize
     ensures { result ≡ run not_lf line.now }
 {

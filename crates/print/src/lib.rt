@@ -1,4 +1,6 @@
 // Bytes written one field after another: each call answers where the next field begins. A pass that does not write only counts.
+#![tactic(auto)]
+
 ghost use Rattle.std.specs.Prelude.{◌≡◌, true, [], ◌+◌, ◌≤◌, ◌<◌, length, replicate};
 ghost use Rattle.laws.specs.Puts.{put_if};
 ghost use Rattle.rules.specs.Report.{digit, digits_in, places_from, decimal};

@@ -1,4 +1,6 @@
 // The message of a text's failure, in a buffer that is lent.
+#![tactic(auto)]
+
 ghost use Rattle.std.specs.Prelude.{◌≡◌};
 ghost use Rattle.rules.specs.Records.{unread};
 ghost use Rattle.rules.specs.Report.{written, report_by, report_into};
@@ -8,7 +10,7 @@ ghost use Rattle.report.specs.Answers.{report_numbers, Reportable};
 
 // The answer of `report`: the size of the message, 0 where the text reads; or why the text is refused, but not 3, or 5 for
 // out with its least length.
-#[derive(Drop)]
+#[derive(Clone, Copy)]
 pub enum ReportAnswer {
     Message(usize),
     Refused(refusals::Unread),

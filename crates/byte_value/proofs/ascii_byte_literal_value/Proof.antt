@@ -14,40 +14,40 @@ use Rattle.byte_value.proofs.ascii_byte_literal_value.Statement.{statement}
 use Rattle.byte_value.proofs.ascii_byte_literal_value.Tie as tie
 
 -- The tests' answer.
-module _ (x : tie.After-test-text) where
+module _ (x : tie.After-test_text) where
   abbrev start : tie.Start
   start = x.before.before.before
 
   abbrev text : List ℕ
   text = start.args.text.now
 
-  reply-is : (r : TextTest) → x.test-text.result ≡ r → value_reply text ≡ reply_after r (option_reply (literal_value text))
+  reply-is : (r : TextTest) → x.test_text.result ≡ r → value_reply text ≡ reply_after r (option_reply (literal_value text))
   unfolding value_reply unless first_of
-  reply-is r e = reply-after text [] (option_reply (literal_value text)) r (barge_test text x.before.barge-limits.ensures x.test-text.ensures r e)
+  reply-is r e = reply-after text [] (option_reply (literal_value text)) r (barge_test text x.barge_limits.ensures x.test_text.ensures r e)
 
-barge-limits-requires : tie.Need-barge-limits-requires
+barge-limits-requires : tie.Need-barge_limits-requires
 barge-limits-requires c κs = search rules
 
-test-text-requires : tie.Need-test-text-requires
+test-text-requires : tie.Need-test_text-requires
 test-text-requires c κs = search rules
 
-enum_told : tie.Need-enum-told
+enum_told : tie.Need-enum_told-1
 enum_told c = search rules
 
-literal-value-requires : tie.Need-literal-value-requires
+literal-value-requires : tie.Need-literal_value-requires
 literal-value-requires c κs = search rules
 
-enum-known-u : tie.Need-enum-known-u
+enum-known-u : tie.Need-enum_known-u
 enum-known-u c = search rules
 
-returns : tie.Need-returns
-returns c = c.literal-value.ensures ∙ sym (reply-is c.before.before.before Passes c.before.enum_told.given.1)
+returns : tie.Need-returns-in-Passes
+returns c = c.literal_value.ensures ∙ sym (reply-is c.before.before Passes c.in-Passes.is)
 
-returns-2 : tie.Need-returns-2
-returns-2 c = sym (reply-is c.before.before.before (Refused c.before.u.given.0.0) c.before.u.given.1)
+returns-2 : tie.Need-returns-in-Refused
+returns-2 c = sym (reply-is c.before (Refused c.in-Refused.u) c.in-Refused.is)
 
-pub ascii-byte-literal-value-spec : {M : Type 1} → statement M
-ascii-byte-literal-value-spec =
+pub ascii_byte_literal_value_spec : {M : Type 1} → statement M
+ascii_byte_literal_value_spec =
     tie.close
     (tie.spec
     barge-limits-requires

@@ -13,37 +13,37 @@ use Rattle.number_parts.proofs.number_parts.Statement.{statement}
 use Rattle.number_parts.proofs.number_parts.Tie as tie
 
 -- The tests' answer.
-module _ (x : tie.After-test-text) where
+module _ (x : tie.After-test_text) where
   abbrev text : List ℕ
-  text = x.before.before.before.args.text.now
+  text = x.args.text.now
 
-  reply-is : (r : TextTest) → x.test-text.result ≡ r → parts_reply text ≡ reply_after r (accepted (parts_words (number_parts text)))
+  reply-is : (r : TextTest) → x.test_text.result ≡ r → parts_reply text ≡ reply_after r (accepted (parts_words (number_parts text)))
   unfolding parts_reply unless first_of
-  reply-is r e = reply-after text [] (accepted (parts_words (number_parts text))) r (barge_test text x.before.barge-limits.ensures x.test-text.ensures r e)
+  reply-is r e = reply-after text [] (accepted (parts_words (number_parts text))) r (barge_test text x.barge_limits.ensures x.test_text.ensures r e)
 
-barge-limits-requires : tie.Need-barge-limits-requires
+barge-limits-requires : tie.Need-barge_limits-requires
 barge-limits-requires c κs = search rules
 
-test-text-requires : tie.Need-test-text-requires
+test-text-requires : tie.Need-test_text-requires
 test-text-requires c κs = search rules
 
-enum_told : tie.Need-enum-told
+enum_told : tie.Need-enum_told-1
 enum_told c = search rules
 
-parts-of-requires : tie.Need-parts-of-requires
+parts-of-requires : tie.Need-parts_of-requires
 parts-of-requires c κs = search rules
 
-enum-known-u : tie.Need-enum-known-u
+enum-known-u : tie.Need-enum_known-u
 enum-known-u c = search rules
 
-returns : tie.Need-returns
-returns c = c.parts-of.ensures ∙ sym (reply-is c.before.before.before Passes c.before.enum_told.given.1)
+returns : tie.Need-returns-in-Passes
+returns c = c.parts_of.ensures ∙ sym (reply-is c.before.before Passes c.in-Passes.is)
 
-returns-2 : tie.Need-returns-2
-returns-2 c = sym (reply-is c.before.before.before (Refused c.before.u.given.0.0) c.before.u.given.1)
+returns-2 : tie.Need-returns-in-Refused
+returns-2 c = sym (reply-is c.before (Refused c.in-Refused.u) c.in-Refused.is)
 
-pub number-parts-spec : {M : Type 1} → statement M
-number-parts-spec =
+pub number_parts_spec : {M : Type 1} → statement M
+number_parts_spec =
     tie.close
     (tie.spec
     barge-limits-requires

@@ -18,56 +18,50 @@ use Rattle.report.proofs.report.Statement.{statement}
 use Rattle.report.proofs.report.Tie as tie
 
 -- The text, opened.
-module _ (x : tie.After-open-text) where
+module _ (x : tie.After-open_text) where
   abbrev start : tie.Start
   start = x.before.before.before.before
 
   abbrev text : List ℕ
   text = start.args.text.now
 
-  pass-is : (r : Pass) → x.open-text.result ≡ r → r ≡ pass_of (fresh_reading text)
+  pass-is : (r : Pass) → x.open_text.result ≡ r → r ≡ pass_of (fresh_reading text)
   unfolding fresh_reading
-  pass-is r e = sym e ∙ x.open-text.ensures ∙ ap (λ (l : Limits). pass_of (fresh_reading_by l text)) x.before.barge-limits.ensures
+  pass-is r e = sym e ∙ x.open_text.ensures ∙ ap (λ (l : Limits). pass_of (fresh_reading_by l text)) x.barge_limits.ensures
 
-  unread-is : (u : Unread) → x.open-text.result ≡ Refused u → fresh_reading text ≡ unread (unread_of u)
+  unread-is : (u : Unread) → x.open_text.result ≡ Refused u → fresh_reading text ≡ unread (unread_of u)
   unread-is u e = pass-refused (fresh_reading text) u (pass-is (Refused u) e)
 
-barge-limits-requires : tie.Need-barge-limits-requires
+barge-limits-requires : tie.Need-barge_limits-requires
 barge-limits-requires c κs = search rules
 
-open-text-requires : tie.Need-open-text-requires
-open-text-requires c κs = let b = c.barge-limits in barge-fits b.result b.ensures
+open-text-requires : tie.Need-open_text-requires
+open-text-requires c κs = let b = c.barge_limits in barge-fits b.result b.ensures
 
-enum_told : tie.Need-enum-told
+enum_told : tie.Need-enum_told-1
 enum_told c = search rules
 
-enum-known-u : tie.Need-enum-known-u
+enum-known-u : tie.Need-enum_known-u
 enum-known-u c = search rules
 
-report-unread-requires : tie.Need-report-unread-requires
+report-unread-requires : tie.Need-report_unread-requires
 report-unread-requires c κs =
-    let v = c.before.before in
-    let x = v.before.before in
-    reportable (text x) v.u.given.0.0 (unread-is x v.u.given.0.0 v.u.given.1)
+    reportable (text c.before.before) c.in-Refused.u (unread-is c.before.before c.in-Refused.u c.in-Refused.is)
 
-returns : tie.Need-returns
+returns : tie.Need-returns-in-Records
 returns c =
-    let x = c.before.before in
-    clear-answer (text x) (start x).args.out.now _ _ (pass-is x _ c.enum_told.given.1)
+    clear-answer (text c.before) (start c.before).args.out.now _ _ (pass-is c.before _ c.in-Records.is)
 
-same_length : tie.Need-same-length
+same_length : tie.Need-shape_of-out
 same_length c = search rules
 
-returns-2 : tie.Need-returns-2
+returns-2 : tie.Need-returns-in-Refused
 returns-2 c =
-    let r = c.before.before in
-    let v = r.before.before.before in
-    let x = v.before.before in
-    let u = v.u.given.0.0 in
-    unread-next (text x) (start x).args.out.now u (unread-is x u v.u.given.1) r.report-unread.result _ r.report-unread.ensures
+    let u = c.in-Refused.u in
+    unread-next (text c.before.before.before.before.before) (start c.before.before.before.before.before).args.out.now u (unread-is c.before.before.before.before.before u c.in-Refused.is) c.report_unread.result _ c.report_unread.ensures
 
-pub report-spec : {M : Type 1} → statement M
-report-spec =
+pub report_spec : {M : Type 1} → statement M
+report_spec =
     tie.close
     (tie.spec
     barge-limits-requires

@@ -1,0 +1,34 @@
+-- `print::put_bytes` meets its contract. So far the first j bytes stand there.
+use Prim.Native.Nat.{ℕ, ◌+◌}
+use mathlib.Core.Path.{◌≡◌, refl, ap, ◌∙◌}
+use mathlib.Core.Bool.{true, false}
+use mathlib.Core.List.{List}
+use native.Mathlib.Omega.{arith}
+use lib.ListN.{length, take, get_or, set}
+use lib.Seq.{sets, length-sets, take_all}
+use Rattle.laws.proofs.Sets.{copy-up}
+use Rattle.print.proofs.put_bytes.Goals as goal
+
+pub returns-then-not-write : goal.returns-then-not-write
+returns-then-not-write c =
+    let w : c.args.write ≡ false = c.if-not-write.true in
+    rw w (refl, refl)
+
+pub loop-j-init : goal.loop-j-init
+loop-j-init c = (omega arith, refl)
+
+pub bounds-out-at : goal.bounds-out-at
+bounds-out-at c =
+    let a = c.args in
+    omega (arith, c.requires.1 (c.if-not-write.false), ap length c.loop-j.invariant.1, length-sets a.out.now a.at (take c.loop-j.j a.bytes.now))
+
+pub loop-j-preserved : goal.loop-j-preserved
+loop-j-preserved c =
+    let a = c.args in
+    (omega arith, ap (λ (l : List ℕ). set l (a.at + c.loop-j.j) (get_or a.bytes.now c.loop-j.j 0)) c.loop-j.invariant.1 ∙ copy-up a.bytes.now a.out.now a.at c.loop-j.j 0 (omega arith))
+
+pub returns : goal.returns
+returns c =
+    let a = c.args in
+    let w : a.write ≡ true = c.if-not-write.false in
+    (refl, rw w (c.loop-j.invariant.1 ∙ ap (sets a.out.now a.at) (take_all c.loop-j.j a.bytes.now c.loop-j-test.false)))
