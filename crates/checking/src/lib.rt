@@ -1,4 +1,6 @@
 // A page held against a fresh reading of its text, line by line.
+#![tactic(auto)]
+
 ghost use Rattle.std.specs.Prelude.{◌≡◌, ◌+◌, ◌*◌, ◌≤◌, length};
 ghost use Rattle.rules.specs.Limits.{max_levels};
 ghost use Rattle.rules.specs.Records.{line_size, token_size, header, read_lines, fresh_reading};
@@ -10,7 +12,7 @@ ghost use Rattle.refusals.specs.Limits.{line_limits_of};
 ghost use Rattle.checking.specs.Answers.{check_numbers};
 
 // The answer of `check`: header and records are those of a fresh reading; they are not; the header needs more than is lent.
-#[derive(Drop)]
+#[derive(Clone, Copy)]
 pub enum CheckAnswer {
     Faithful,
     Stale,

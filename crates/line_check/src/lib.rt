@@ -1,4 +1,6 @@
 // One line of a page held against its records, and the end.
+#![tactic(auto)]
+
 ghost use Rattle.std.specs.Prelude.{◌≡◌, ◌&&◌, ◌+◌, ◌*◌, ◌≤◌, length, drop};
 ghost use Rattle.rules.specs.Lists.{begins};
 ghost use Rattle.rules.specs.Line.{dedents, cuts_from, read_line};
@@ -13,14 +15,14 @@ ghost use Rattle.line.specs.LineCuts.{line_cuts_of, tokens_of, whole_line, line_
 ghost use Rattle.line_check.specs.Same.{same_cuts_if, same_line_if, agreed_if, agreed_of, LevelsWithin};
 
 // What a line's cuts give where the words agree with them: the number of tokens, the depth after them and whether the last one is an arrow.
-#[derive(Drop)]
+#[derive(Clone, Copy)]
 pub enum SameCuts {
     Ends(usize, u32, bool),
     Differs,
 }
 
 // What a line gives where the words agree with its tokens: their number and the state after it.
-#[derive(Drop)]
+#[derive(Clone, Copy)]
 pub enum SameLine {
     Agrees(usize, records::State),
     Differs,

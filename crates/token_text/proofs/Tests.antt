@@ -44,10 +44,6 @@ module _ (pg : Page) (i names : ℕ) where
     no_number h = rw (f, le-leb pg.head.k i h)
 
     module _ (h : i < pg.head.k) where
-      -- the words of the token are there
-      pub in_tokens : token_size * i + 5 ≤ length pg.tokens
-      in_tokens = omega (arith, (fits_true pg f).tokens)
-
       pub no_token : is_unfit pg i ≡ true → Comes (some unfit)
       unfolding part_tests first_of refused_if
       no_token u = rw (f, lt-leb pg.head.k i h, u)

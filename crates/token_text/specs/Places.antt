@@ -1,7 +1,6 @@
 -- Where a token's text stands in memory: it is handed back as a part of a lent slice, not as a copy.
 -- Assumes nothing.
-use Rattle.std.specs.Prelude.{ℕ, ◌+◌, eqb}
-use Rattle.rules.specs.Lists.{if◌then◌else◌}
+use Rattle.std.specs.Prelude.{ℕ, ◌+◌, eqb, if◌then◌else◌}
 use Rattle.rules.specs.Replies.{text_buffer, first_of, unless}
 use Rattle.rules.specs.Page.{Page}
 use Rattle.rules.specs.TokenText.{Part, part, part_tests, part_of}

@@ -1,4 +1,6 @@
 // The text of a token, a part of the page's text or of the names, chosen by its kind.
+#![tactic(auto)]
+
 ghost use Rattle.std.specs.Prelude.{◌≡◌, ◌||◌, not, ◌+◌, ◌≤◌, ◌<◌, ◌^◌, ltb, length};
 ghost use Rattle.rules.specs.Kinds.{is_kind};
 ghost use Rattle.rules.specs.Replies.{accepted, first_of};
@@ -25,7 +27,7 @@ const NAMES_END: usize = 18;
 
 // Where the text of a token stands: start and size of a part of the text or of the names; or a refusal, 7, 6, or 5 for the names with
 // their least length.
-#[derive(Drop)]
+#[derive(Clone, Copy)]
 pub enum PartAnswer {
     Text(usize, usize),
     Names(usize, usize),
@@ -35,7 +37,7 @@ pub enum PartAnswer {
 }
 
 // What the tests say of a token that is asked for: its kind, position and size, or a refusal.
-#[derive(Drop)]
+#[derive(Clone, Copy)]
 enum Asked {
     Granted(u32, usize, usize),
     Unfit,

@@ -1,10 +1,12 @@
 // A walk over the token records, a step at a time.
+#![tactic(auto)]
+
 ghost use Rattle.std.specs.Prelude.{◌≡◌};
 ghost use Rattle.rules.specs.Walk.{walk_reply};
 ghost use Rattle.token_walk.specs.Steps.{step_numbers};
 
 // A token's record.
-#[derive(Drop)]
+#[derive(Clone, Copy)]
 pub struct TokenRecord {
     pub kind: u32,
     pub position: u32,
@@ -14,7 +16,7 @@ pub struct TokenRecord {
 }
 
 // A step of a walk: the next number and a record, or done with the number kept.
-#[derive(Drop)]
+#[derive(Clone, Copy)]
 pub enum Step {
     Record(usize, TokenRecord),
     Done(usize),

@@ -18,7 +18,7 @@ use Rattle.checking.proofs.is_fresh.Statement.{statement}
 use Rattle.checking.proofs.is_fresh.Tie as tie
 
 -- The tests' answer.
-module _ (x : tie.After-test-text) where
+module _ (x : tie.After-test_text) where
   abbrev start : tie.Start
   start = x.before.before.before.before.before
 
@@ -28,58 +28,56 @@ module _ (x : tie.After-test-text) where
   abbrev given : Records
   given = record { head = header (length text) start.args.count start.args.total; lines = start.args.lines.now; tokens = start.args.tokens.now }
 
-  test-is : (r : TextTest) → x.test-text.result ≡ r → test_of barge text ≡ r
-  test-is = barge_test text x.before.barge-limits.ensures x.test-text.ensures
+  test-is : (r : TextTest) → x.test_text.result ≡ r → test_of barge text ≡ r
+  test-is = barge_test text x.barge_limits-limits.ensures x.test_text.ensures
 
 -- The text passed both tests.
-module _ (w : tie.After-widths) where
-  abbrev told : tie.After-enum-told2
-  told = w.before.before.before
+module _ (w : tie.After-widths-1) where
+  abbrev told : tie.In_default
+  told = w.before.before.before.before
 
-  abbrev tested : tie.After-test-text
-  tested = told.before.before
+  abbrev tested : tie.After-test_text
+  tested = told.before
 
   passed : test_of barge (text tested) ≡ Passes
-  passed = test-is tested Passes told.enum-told2.given.1
+  passed = test-is tested Passes told.in_default.is
 
-barge-limits-requires : tie.Need-barge-limits-requires
+barge-limits-requires : tie.Need-barge_limits-limits-requires
 barge-limits-requires c κs = search rules
 
-test-text-requires : tie.Need-test-text-requires
+test-text-requires : tie.Need-test_text-requires
 test-text-requires c κs = search rules
 
-enum_told : tie.Need-enum-told
+enum_told : tie.Need-enum_told-1
 enum_told c = search rules
 
-returns : tie.Need-returns
+returns : tie.Need-returns-in-Refused
 returns c =
-    let x = c.before.before in
-    refused-text (given x) (text x) c.enum_told.given.0.0 (test-is x (Refused c.enum_told.given.0.0) c.enum_told.given.1)
+    refused-text (given c.before) (text c.before) c.in-Refused.field-0 (test-is c.before (Refused c.in-Refused.field-0) c.in-Refused.is)
 
-enum-told-2 : tie.Need-enum-told-2
+enum-told-2 : tie.Need-enum_told-in_default
 enum-told-2 c = search rules
 
-tables-requires : tie.Need-tables-requires
+tables-requires : tie.Need-tables-tables-requires
 tables-requires c κs = search rules
 
-slice-aggregate-lines-agree : tie.Need-slice-aggregate-lines-agree
+slice-aggregate-lines-agree : tie.Need-slice_bounds-lines_agree-end
 slice-aggregate-lines-agree c = search rules
 
-lines-agree-requires : tie.Need-lines-agree-requires
+lines-agree-requires : tie.Need-lines_agree-requires
 lines-agree-requires c κs =
     let x = tested c in
-    let b = x.before.barge-limits in
-    (c.before.before.tables.ensures, ((passes-short barge (text x) (passed c), refl, (barge-fits b.result b.ensures).1), (start x).pre))
+    let b = x.barge_limits-limits in
+    (c.tables-tables.ensures, ((passes-short barge (text x) (passed c), refl, (barge-fits b.result b.ensures).1), (start x).requires))
 
-returns-2 : tie.Need-returns-2
+returns-2 : tie.Need-returns
 returns-2 c =
-    let w = c.before.before in
-    let x = tested w in
-    let b = x.before.barge-limits in
-    lines_decide (given x) (text x) (passed w) _ (c.before.lines-agree.ensures ∙ ap (λ (l : LineLimits). is_recorded (given x) (read_lines l (text x))) (barge-line b.result b.ensures))
+    let x = tested c.before.before in
+    let b = x.barge_limits-limits in
+    lines_decide (given x) (text x) (passed c.before.before) _ (c.lines_agree.ensures ∙ ap (λ (l : LineLimits). is_recorded (given x) (read_lines l (text x))) (barge-line b.result b.ensures))
 
-pub is-fresh-spec : {M : Type 1} → statement M
-is-fresh-spec =
+pub is_fresh_spec : {M : Type 1} → statement M
+is_fresh_spec =
     tie.close
     (tie.spec
     barge-limits-requires

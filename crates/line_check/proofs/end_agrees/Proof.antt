@@ -16,24 +16,22 @@ module _ (s : tie.Start) where
   abbrev closing : Bool
   closing = let p = s.args.place in begins (token_words p.start (p.line + 1) (dedents s.args.s.levels)) (drop (token_size * p.first) s.args.tokens.now)
 
-same-line-requires : tie.Need-same-line-requires
+same-line-requires : tie.Need-same_line-requires
 same-line-requires c κs = search rules
 
-same-dedents-requires : tie.Need-same-dedents-requires
+same-dedents-requires : tie.Need-same_dedents-requires
 same-dedents-requires c κs = search rules
 
-returns : tie.Need-returns
+returns : tie.Need-returns-then-same_line
 returns c =
-    let r = c.before.before in
-    let e = sym r.same_line.ensures ∙ c.before.if1.true in
-    c.same-dedents.ensures ∙ sym (ap (λ (x : Bool). x && closing r.before.before.before.before) e)
+    let e = sym c.same_line.ensures ∙ c.if-same_line.true in
+    c.same_dedents.ensures ∙ sym (ap (λ (x : Bool). x && closing c.before.before.before.before.before.before) e)
 
-returns-2 : tie.Need-returns-2
+returns-2 : tie.Need-returns
 returns-2 c =
-    let r = c.before in
-    let e = sym r.same_line.ensures ∙ c.if1.false in
-    sym (ap (λ (x : Bool). x && closing r.before.before.before.before) e)
+    let e = sym c.same_line.ensures ∙ c.if-same_line.false in
+    sym (ap (λ (x : Bool). x && closing c.before.before.before.before.before) e)
 
-pub end-agrees-spec : {M : Type 1} → statement M
-end-agrees-spec =
+pub end_agrees_spec : {M : Type 1} → statement M
+end_agrees_spec =
     tie.close (tie.spec same-line-requires same-dedents-requires returns returns-2)

@@ -31,79 +31,74 @@ module _ (s : tie.Start) where
   lim = line_limits_of s.args.limits
 
 -- The levels are compared.
-abbrev start : tie.After-levels-of → tie.Start
+abbrev start : tie.After-levels_of → tie.Start
 start v = v.before.before.before.before.before.before
 
 -- The levels are known.
-module _ (k : tie.After-known-told) where
-  abbrev compared : tie.After-levels-of
-  compared = k.before.before.before.before.before
+module _ (k : tie.In-Levels) where
+  abbrev compared : tie.After-levels_of
+  compared = k.before.before.before
 
   abbrev lead : Lead
-  lead = k.before.lead.given.0.0
+  lead = k.in-Levels.lead
 
-  levels-are : levels_of (lim (start compared)) (state (start compared)) (line (start compared)) ≡ levels (leading lead) (take lead.levels compared.levels-of.last.1.1.1.1.0)
-  levels-are = levels-known (lim (start compared)) (state (start compared)) (line (start compared)) _ lead _ compared.levels-of.ensures.0 k.before.lead.given.1
+  levels-are : levels_of (lim (start compared)) (state (start compared)) (line (start compared)) ≡ levels (leading lead) (take lead.levels compared.levels_of.new.widths)
+  levels-are = levels-known (lim (start compared)) (state (start compared)) (line (start compared)) _ lead _ compared.levels_of.ensures.0 k.in-Levels.is
 
   within : (lead.levels ≤ max_levels) × (lead.closes ≤ max_levels)
-  within = subst Within k.before.lead.given.1 compared.levels-of.ensures.1.0
+  within = subst Within k.in-Levels.is compared.levels_of.ensures.1.0
 
-leading-spaces-requires : tie.Need-leading-spaces-requires
-leading-spaces-requires c κs = c.before.before.before.requires.0
+leading-spaces-requires : tie.Need-leading_spaces-spaces-requires
+leading-spaces-requires c κs = c.requires.0
 
-levels-of-requires : tie.Need-levels-of-requires
+levels-of-requires : tie.Need-levels_of-requires
 levels-of-requires c κs =
-    let r = c.before in
-    let s = r.before.before.before.before in
-    let q = s.requires.1 in
-    ((omega (arith, q.0.0), q.1.0, q.1.1, q.1.2), r.leading-spaces.ensures)
+    let q = c.requires.1 in
+    ((omega (arith, q.0.0), q.1.0, q.1.1, q.1.2), c.leading_spaces-spaces.ensures)
 
-enum-known-lead : tie.Need-enum-known-lead
+enum-known-lead : tie.Need-enum_known-lead
 enum-known-lead c = search rules
 
-tokens-agree-requires : tie.Need-tokens-agree-requires
+tokens-agree-requires : tie.Need-tokens_agree-requires
 tokens-agree-requires c κs =
     let p = (start (compared c)).requires in
     (p.0, (p.1.0, (within c).1))
 
-enum_told : tie.Need-enum-told
+enum_told : tie.Need-enum_told-1
 enum_told c = search rules
 
-enum-told-2 : tie.Need-enum-told-2
+enum-told-2 : tie.Need-enum_told-in-Beyond
 enum-told-2 c = search rules
 
-same_length : tie.Need-same-length
+same_length : tie.Need-shape_of-widths-in-Levels
 same_length c = search rules
 
-returns : tie.Need-returns
+returns : tie.Need-returns-in-Levels
 returns c =
-    let k = c.before in
-    let s = start (compared k) in
+    let s = start (compared c.before) in
     let a = s.args in (
-      agreed-line (lim s) (state s) (line s) (lead k) _ a.place.start (a.place.line + 1) a.place.first a.tokens.now _ (levels-are k) c.tokens-agree.ensures,
-      agrees-within (lead k) _ (line_cuts_of a.s.depth (cuts_from 0 0 (line s))) _ c.tokens-agree.ensures (within k).0,
+      agreed-line (lim s) (state s) (line s) (lead c.before) _ a.place.start (a.place.line + 1) a.place.first a.tokens.now _ (levels-are c.before) c.tokens_agree.ensures,
+      agrees-within (lead c.before) _ (line_cuts_of a.s.depth (cuts_from 0 0 (line s))) _ c.tokens_agree.ensures (within c.before).0,
     )
 
-same-length-2 : tie.Need-same-length-2
+same-length-2 : tie.Need-shape_of-widths-in-Unequal
 same-length-2 c = search rules
 
-returns-2 : tie.Need-returns-2
+returns-2 : tie.Need-returns-in-Unequal
 returns-2 c =
-    let v = c.before.before.before.before in
-    let s = start v in
-    (halted-line (lim s) (state s) (line s) (failed (failure bad_indent 0 0 (indent_size (line s)))) _ (read-unequal (lim s) (state s) (line s) _ _ v.levels-of.ensures.0 c.enum_told.given.1), tt)
+    let s = start c.before.before.before in
+    (halted-line (lim s) (state s) (line s) (failed (failure bad_indent 0 0 (indent_size (line s)))) _ (read-unequal (lim s) (state s) (line s) _ _ c.levels_of.ensures.0 c.in-Unequal.is), tt)
 
-same-length-3 : tie.Need-same-length-3
+same-length-3 : tie.Need-shape_of-widths-in-Beyond
 same-length-3 c = search rules
 
-returns-3 : tie.Need-returns-3
+returns-3 : tie.Need-returns-in-Beyond
 returns-3 c =
-    let v = c.before.before.before.before in
-    let s = start v in
-    (halted-line (lim s) (state s) (line s) (over_limit c.enum-told2.given.0.0) _ (read-beyond (lim s) (state s) (line s) _ _ c.enum-told2.given.0.0 v.levels-of.ensures.0 c.enum-told2.given.1), tt)
+    let s = start c.before.before.before in
+    (halted-line (lim s) (state s) (line s) (over_limit c.in-Beyond.field-0) _ (read-beyond (lim s) (state s) (line s) _ _ c.in-Beyond.field-0 c.levels_of.ensures.0 c.in-Beyond.is), tt)
 
-pub line-agrees-spec : {M : Type 1} → statement M
-line-agrees-spec =
+pub line_agrees_spec : {M : Type 1} → statement M
+line_agrees_spec =
     tie.close
     (tie.spec
     leading-spaces-requires

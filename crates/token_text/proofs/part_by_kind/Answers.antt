@@ -1,0 +1,20 @@
+-- `token_text::part_by_kind` meets its contract.
+use Rattle.rules.specs.TokenText.{part_by}
+use borrow.Author.Rules.{rules}
+use Rattle.token_text.proofs.part_by_kind.Goals as goal
+
+pub returns-then-kind-eq-INDENT : goal.returns-then-kind-eq-INDENT
+unfolding part_by
+returns-then-kind-eq-INDENT c = search rules
+
+pub returns-then-kind-eq-DEDENT : goal.returns-then-kind-eq-DEDENT
+unfolding part_by
+returns-then-kind-eq-DEDENT c = search rules
+
+pub returns-then-kind-eq-NEWLINE : goal.returns-then-kind-eq-NEWLINE
+unfolding part_by
+returns-then-kind-eq-NEWLINE c = search rules
+
+pub returns : goal.returns
+unfolding part_by
+returns c = search rules
