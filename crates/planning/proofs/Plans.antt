@@ -10,7 +10,7 @@ use lib.Dec.{ltb}
 use lib.ListN.{length, get_or, take, drop, length-append, length-drop, length-take, drop_of_length-le, take-append-drop, length-replicate}
 use lib.Seq.{take-take, take_all, take-append-le, length-take-le}
 use borrow.Author.Tests.{lt-ltb, le-ltb, ltb-true, ltb-false}
-use Rattle.rules.specs.Lists.{if◌then◌else◌}
+use Rattle.std.specs.Prelude.{if◌then◌else◌}
 use Rattle.rules.specs.Line.{State, initial, token_at, Halt, failed, over_limit}
 use Rattle.rules.specs.Reading.{lines_of, count_lf, Entry, Reading, reads, halts, read_from, byte_sum, token_sum, state_at}
 use Rattle.rules.specs.Limits.{max_levels, max_bytes, barge, barge_line}

@@ -12,7 +12,8 @@ use lib.ListN.{length, get_or, take, drop, take-append-drop}
 use lib.Seq.{take-suc, take-append-add, length-take-le}
 use mir.Val.{bool_byte}
 use borrow.Author.Tests.{le-leb, lt-leb, leb-true}
-use Rattle.rules.specs.Lists.{if◌then◌else◌, bit}
+use Rattle.std.specs.Prelude.{if◌then◌else◌}
+use Rattle.rules.specs.Lists.{bit}
 use Rattle.rules.specs.Reading.{count_lf}
 use Rattle.rules.specs.Limits.{max_levels}
 use Rattle.rules.proofs.ListLaws.{and-true}

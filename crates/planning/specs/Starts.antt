@@ -1,7 +1,6 @@
 -- Where reading again begins: the line, and its record by its words.
 -- Assumes nothing.
-use Rattle.std.specs.Prelude.{ℕ, ◌+◌, Bool, ◌&&◌, List, leb, ltb, take}
-use Rattle.rules.specs.Lists.{if◌then◌else◌}
+use Rattle.std.specs.Prelude.{ℕ, ◌+◌, Bool, ◌&&◌, List, leb, ltb, take, if◌then◌else◌}
 use Rattle.rules.specs.Reading.{count_lf}
 use Rattle.rules.specs.Limits.{max_levels}
 use Rattle.records.specs.Words.{line_word}

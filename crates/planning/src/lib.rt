@@ -1,4 +1,6 @@
 // What an edit will write, found without writing: where reading again begins, where it stops, and what is kept.
+#![tactic(auto)]
+
 ghost use Rattle.std.specs.Prelude.{◌≡◌, true, ◌+◌, ◌-◌, ◌*◌, ◌≤◌, ◌<◌, length, take, drop};
 ghost use Rattle.rules.specs.Limits.{max_levels, barge_line};
 ghost use Rattle.rules.specs.Reading.{count_lf};

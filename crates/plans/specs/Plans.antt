@@ -1,7 +1,6 @@
 -- What an edit writes: the lines read again, and the tail that is kept.
 -- Assumes nothing.
-use Rattle.std.specs.Prelude.{ℕ, ◌+◌, ◌-◌, ◌*◌, ◌≤◌, ◌≡◌, Bool, true, false, List, [], ◌++◌, ltb, length, take, drop}
-use Rattle.rules.specs.Lists.{if◌then◌else◌}
+use Rattle.std.specs.Prelude.{ℕ, ◌+◌, ◌-◌, ◌*◌, ◌≤◌, ◌≡◌, Bool, true, false, List, [], ◌++◌, ltb, length, take, drop, if◌then◌else◌}
 use Rattle.rules.specs.Line.{State, initial}
 use Rattle.rules.specs.Reading.{lines_of, Entry, Reading, reads, halts, read_from, byte_sum, token_sum}
 use Rattle.rules.specs.Limits.{max_levels, barge_line, LimitNumber}

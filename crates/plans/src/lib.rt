@@ -1,4 +1,6 @@
 // What an edit will write: where its records go, and whether there is room for them.
+#![tactic(auto)]
+
 ghost use Rattle.std.specs.Prelude.{◌≡◌, ◌+◌, ◌*◌, ◌≤◌, length};
 ghost use Rattle.rules.specs.Records.{line_size};
 ghost use Rattle.records.specs.Words.{line_word};
@@ -7,7 +9,7 @@ ghost use Rattle.plans.specs.Plans.{roomed, stop_answer, end_plan};
 // Where an accepted edit writes: line records from i on, where `base` is the start of line i, become `lines` records, for `count`
 // lines that are read again in `read` tokens and perhaps the end; token records from `first` on become `tokens` records. Old line
 // records from j on and old token records from `from` on are kept: their bytes began at `old` and then begin at `new`.
-#[derive(Drop)]
+#[derive(Clone, Copy)]
 pub struct Plan {
     pub i: usize,
     pub j: usize,
@@ -24,7 +26,7 @@ pub struct Plan {
 }
 
 // A plan; or why the edited text does not read, 5 for one of two buffers with its least length, or 7.
-#[derive(Drop)]
+#[derive(Clone, Copy)]
 pub enum PlanAnswer {
     Writes(Plan),
     Refused(refusals::Unread),
@@ -34,6 +36,7 @@ pub enum PlanAnswer {
 }
 
 // A plan with room for its records.
+#[tactic(auto, using(std::proofs::lemmas::Bool::Decides::nat_tests))]
 fn plan_room(p: Plan, m: usize, k: usize, lines: usize, tokens: usize) -> PlanAnswer
     requires i_bound { (p.i ≤ 1_048_576) × ((p.lines ≤ 1_048_577) × ((m ≤ 1_048_576) × (p.j ≤ m + 1))) }
     requires first_le_k { (p.first ≤ k) × ((p.tokens ≤ 3_000_000) × ((k ≤ 2_097_152) × (p.from ≤ k))) }

@@ -4,7 +4,7 @@ use Prim.Native.Nat.{ℕ, zero, suc, ◌+◌, ◌-◌, ◌*◌, ◌≤◌, ◌<�
 use mathlib.Core.Path.{◌≡◌, refl, sym, ap, ◌∙◌}
 use mathlib.Core.Bool.{Bool, true, false}
 use mathlib.Core.List.{List, [], ◌∷◌, ◌++◌, append_assoc}
-use mathlib.Core.Logic.{⊎_elim}
+use mathlib.Core.Logic.{◌⊎◌, inl, inr, ⊎_elim}
 use native.Mathlib.Omega.{arith}
 use native.Mathlib.Nat.{add-zero, add-suc, suc-add, eq-zero-or-pos, mul-le-mul_left}
 use lib.Dec.{ltb}
@@ -196,6 +196,11 @@ way_of s d = go (ltb s d) refl
 pub place-le : (up : Bool) (done k n : ℕ) → done + k ≤ n → place up done k n + k ≤ n
 place-le true done k n h = omega arith
 place-le false done k n h = h
+
+-- a place told for each way
+pub place_tells : (up : Bool) (done k n : ℕ) → ((up ≡ true) × (place up done k n ≡ n - done - k)) ⊎ ((up ≡ false) × (place up done k n ≡ done))
+place_tells true done k n = inl (refl, refl)
+place_tells false done k n = inr (refl, refl)
 
 -- Parts of c words moved one after the other, n in all.
 module _ (up : Bool) (l : List ℕ) (s d n c : ℕ) where

@@ -1,4 +1,6 @@
 // Words moved within their buffer, from one place to another that may overlap.
+#![tactic(auto)]
+
 ghost use Rattle.std.specs.Prelude.{◌≡◌, ◌+◌, ◌*◌, ◌≤◌, length};
 ghost use Rattle.std.proofs.lemmas.List.Edits.{sets};
 ghost use Rattle.words.specs.Words.{Way, place, words};
@@ -20,6 +22,7 @@ fn move_four(ws: &mut [u32], src: usize, dst: usize)
 
 // Where a part of k begins, when n things are moved one after the other, from the first on or, upwards, from the last on, and `done` of
 // them are moved.
+#[tactic(auto, using(crate::proofs::Words::place_tells))]
 pub fn place_of(up: bool, done: usize, k: usize, n: usize) -> usize
     requires { done + k ≤ n }
     ensures { result ≡ place up done k n }
@@ -59,6 +62,7 @@ fn move_eights(ws: &mut [u32], up: bool, from: usize, to: usize, n: usize)
 }
 
 // n words, one at a time.
+#[tactic(auto, using(crate::proofs::Words::place_tells))]
 fn move_each(ws: &mut [u32], up: bool, from: usize, to: usize, n: usize)
     requires n_in_bounds { (from + n ≤ length ws.old) × (to + n ≤ length ws.old) }
     requires way { Way up from to }
