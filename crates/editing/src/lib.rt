@@ -1,4 +1,6 @@
 // An edit whose range is proper and whose text has room: spliced, tested, planned and written.
+#![tactic(auto)]
+
 ghost use Rattle.std.specs.Prelude.{◌≡◌, true, ◌+◌, ◌-◌, ◌*◌, ◌≤◌, length, take, drop};
 ghost use Rattle.std.proofs.lemmas.List.Edits.{sets};
 ghost use Rattle.rules.specs.Records.{line_size, token_size, header};
@@ -12,7 +14,7 @@ ghost use Rattle.editing.specs.Answers.{edit_numbers, answer_by, refusal_by, len
 
 // The answer of `edit`: bytes, lines, tokens and the re-read count; or why the edited text is refused by itself, 5 for one of four
 // buffers with its least length, 6 or 7.
-#[derive(Drop)]
+#[derive(Clone, Copy)]
 pub enum EditAnswer {
     Edited(usize, usize, usize, usize),
     Refused(refusals::Unread),

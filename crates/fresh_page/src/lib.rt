@@ -1,10 +1,12 @@
 // The fresh page.
+#![tactic(auto)]
+
 ghost use Rattle.std.specs.Prelude.{◌≡◌, length};
 ghost use Rattle.rules.specs.Page.{fresh_reply, fresh_lines};
 ghost use Rattle.fresh_page.specs.Answers.{fresh_numbers};
 
 // The answer of `fresh`: the header 0, 0, 0; or 5 for the line words with their least length.
-#[derive(Drop)]
+#[derive(Clone, Copy)]
 pub enum FreshAnswer {
     Fresh,
     ShortLines(usize),

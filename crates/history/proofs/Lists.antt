@@ -9,9 +9,6 @@ use native.Mathlib.Nat.{add-zero, suc-add, add-suc, eq-zero-or-pos}
 use native.Mathlib.Numerals.{add-one}
 use lib.ListN.{length, take, drop, length-drop, drop_of_length-le, replicate}
 use lib.Seq.{take_all, take-nil}
-use types.Run.{OneOf}
-use denote.Enum.Declared.{tag_of}
-use Rattle.editing.specs.contracts.EditAnswer.{the_type}
 use Rattle.laws.specs.Blocks.{table}
 use Rattle.rules.specs.Lists.{overwrite}
 use Rattle.rules.specs.Limits.{barge_line}
@@ -152,10 +149,3 @@ module _ (n m k : ℕ) where
   head-kept (ShortTokens l) x = refl
   head-kept Outside x = refl
   head-kept Unfit x = refl
-
--- an answer with another key is no acceptance
-pub other : (last : EditAnswer) (n m k count : ℕ) → last ≡ Edited n m k count → OneOf (1 ∷ 2 ∷ 3 ∷ 4 ∷ 5 ∷ 6 ∷ 7 ∷ []) (tag_of the_type last) → ⊥
-other last n m k count e x = none_of (subst (λ (r : EditAnswer). OneOf (1 ∷ 2 ∷ 3 ∷ 4 ∷ 5 ∷ 6 ∷ 7 ∷ []) (tag_of the_type r)) e x)
-  where
-    none_of : OneOf (1 ∷ 2 ∷ 3 ∷ 4 ∷ 5 ∷ 6 ∷ 7 ∷ []) 0 → ⊥
-    none_of = (⊎_elim (λ (e : 0 ≡ 1). omega (arith, e)) (⊎_elim (λ (e : 0 ≡ 2). omega (arith, e)) (⊎_elim (λ (e : 0 ≡ 3). omega (arith, e)) (⊎_elim (λ (e : 0 ≡ 4). omega (arith, e)) (⊎_elim (λ (e : 0 ≡ 5). omega (arith, e)) (⊎_elim (λ (e : 0 ≡ 6). omega (arith, e)) (λ (e : 0 ≡ 7). omega (arith, e))))))))

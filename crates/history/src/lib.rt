@@ -1,4 +1,6 @@
 // A list of edits applied to the fresh page.
+#![tactic(auto)]
+
 ghost use Rattle.std.specs.Prelude.{◌≡◌, [], ◌+◌, ◌-◌, ◌*◌, ◌≤◌, ◌<◌, ◌/◌, min, length, get_or};
 ghost use Rattle.rules.specs.Records.{line_size, header};
 ghost use Rattle.rules.specs.Page.{header_after, fresh_reply};
@@ -7,7 +9,7 @@ ghost use Rattle.editing.specs.Answers.{edit_numbers, lent, lent_after};
 ghost use Rattle.history.specs.Lists.{edit_at, edits_of, SmallAnswer, Happened};
 
 // A header, and the answer of the last edit.
-#[derive(Drop)]
+#[derive(Clone, Copy)]
 pub struct Outcome {
     pub n: u32,
     pub m: u32,
@@ -26,7 +28,7 @@ fn lesser(x: usize, y: usize) -> usize
 }
 
 // An edit of a list: the range that it replaces, and the part of the lent bytes that it puts in.
-#[derive(Drop)]
+#[derive(Clone, Copy)]
 struct Listed {
     a: usize,
     b: usize,

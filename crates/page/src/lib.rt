@@ -1,4 +1,6 @@
 // The editable page: an edit of it.
+#![tactic(auto)]
+
 ghost use Rattle.std.specs.Prelude.{◌≡◌, ◌+◌, ◌-◌, ◌≤◌, min};
 ghost use Rattle.rules.specs.Records.{header};
 ghost use Rattle.rules.specs.Edit.{EditPost};

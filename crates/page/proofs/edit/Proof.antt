@@ -5,7 +5,6 @@ use mathlib.Core.Path.{◌≡◌, ap}
 use mathlib.Core.Bool.{true, false}
 use native.Mathlib.Omega.{arith}
 use lib.ListN.{length}
-use borrow.Author.Tests.{not-true, not-false}
 use Rattle.rules.specs.Limits.{Limits, max_bytes}
 use Rattle.rules.specs.Records.{header}
 use Rattle.rules.specs.Page.{Lent, fits, page_text}
@@ -20,7 +19,6 @@ use Rattle.page.proofs.edit.Statement.{statement}
 use Rattle.page.proofs.edit.Tie as tie
 
 -- What is lent, and the edit.
-
 abbrev lent_at : tie.Start → Lent
 lent_at s = lent (header s.args.n s.args.m s.args.k) s.args.text.now s.args.spare.now s.args.lines.now s.args.tokens.now
 
@@ -30,85 +28,81 @@ edit-at s = edit_of s.args.a s.args.b s.args.w.now
 fits-requires : tie.Need-fits-requires
 fits-requires c κs = search rules
 
-abbrev start : tie.After-fits2 → tie.Start
+abbrev start : tie.After-fits → tie.Start
 start c = c.before.before.before.before.before.before
 
-returns : tie.Need-returns
+returns : tie.Need-returns-then-not-fits
 returns c =
-    let f = c.before in
-    unfit-edit (lent_at (start f)) (edit-at (start f)) (fits_by (lent_at (start f)).page f.fits2.result false f.fits2.ensures (not-true f.fits2.result c.if1.true))
+    unfit-edit (lent_at (start c.before)) (edit-at (start c.before)) (fits_by (lent_at (start c.before)).page c.fits.result false c.fits.ensures c.if-not-fits.true)
 
 -- the page fits
-fit : (c : tie.Else1) → fits (lent_at (start c.before)).page ≡ true
-fit c = fits_by (lent_at (start c.before)).page c.before.fits2.result true c.before.fits2.ensures (not-false c.before.fits2.result c.if1.false)
+fit : (c : tie.Else-not-fits) → fits (lent_at (start c.before)).page ≡ true
+fit c = fits_by (lent_at (start c.before)).page c.fits.result true c.fits.ensures c.if-not-fits.false
 
-returns-2 : tie.Need-returns-2
-returns-2 c = order-edit _ _ (fit c.before) c.if2.true
+returns-2 : tie.Need-returns-then-b-a
+returns-2 c = order-edit _ _ (fit c.before) c.if-b-a.true
 
-returns-3 : tie.Need-returns-3
-returns-3 c = past-edit _ _ (fit c.before.before) c.if3.true
+returns-3 : tie.Need-returns-then-n-b
+returns-3 c = past-edit _ _ (fit c.before.before) c.if-n-b.true
 
-edited-length-requires : tie.Need-edited-length-requires
+edited-length-requires : tie.Need-edited_length-size-requires
 edited-length-requires c κs = search rules
 
-barge-limits-requires : tie.Need-barge-limits-requires
+barge-limits-requires : tie.Need-barge_limits-limits-requires
 barge-limits-requires c κs = search rules
 
 -- the range is proper
-abbrev start_of : tie.Else3 → tie.Start
+abbrev start_of : tie.Else-n-b → tie.Start
 start_of c = start c.before.before.before
 
-ranged : (c : tie.Else3) → Ranged (lent_at (start_of c)) (edit-at (start_of c))
-ranged c = record { fit = fit c.before.before; order = c.before.if2.false; inside = c.if3.false }
+ranged : (c : tie.Else-n-b) → Ranged (lent_at (start_of c)) (edit-at (start_of c))
+ranged c = record { fit = fit c.before.before; order = c.if-b-a.false; inside = c.if-n-b.false }
 
-returns-4 : tie.Need-returns-4
+returns-4 : tie.Need-returns-then-limits-size
 returns-4 c =
-    let b = c.before.before in
-    let e = b.barge-limits.ensures in
-    long-edit _ _ (ranged b.before.before) _ _ _ (ap (λ (l : Limits). l.bytes) e) (ap (λ (l : Limits). l.too_long_number) e) b.before.edited-length.ensures c.if4.true
+    let e = c.barge_limits-limits.ensures in
+    long-edit _ _ (ranged c.before.before.before.before) _ _ _ (ap (λ (l : Limits). l.bytes) e) (ap (λ (l : Limits). l.too_long_number) e) c.edited_length-size.ensures c.if-limits-size.true
 
 -- the edited text is no longer than the barge reads
-small : (c : tie.Else4) → c.before.before.before.edited-length.result ≤ max_bytes
-small c = omega (arith, (barge-fits c.before.before.barge-limits.result c.before.before.barge-limits.ensures).0, c.if4.false)
+small : (c : tie.Else-limits-size) → c.edited_length-size.result ≤ max_bytes
+small c = omega (arith, (barge-fits c.barge_limits-limits.result c.barge_limits-limits.ensures).0, c.if-limits-size.false)
 
 -- the length is that of the edited text
-abbrev length_at : tie.Else4 → tie.After-edited-length
+abbrev length_at : tie.Else-limits-size → tie.After-edited_length-size
 length_at c = c.before.before.before
 
-size_of : (c : tie.Else4) → let s = start_of (length_at c).before in (length_at c).edited-length.result ≡ length (edited (page_text (lent_at s).page) (edit-at s))
-size_of c = settled _ _ _ (length_at c).edited-length.ensures (size_is _ _ (ranged (length_at c).before)) (small c)
+size_of : (c : tie.Else-limits-size) → let s = start_of (length_at c).before in (length_at c).edited_length-size.result ≡ length (edited (page_text (lent_at s).page) (edit-at s))
+size_of c = settled _ _ _ (length_at c).edited_length-size.ensures (size_is _ _ (ranged (length_at c).before)) (small c)
 
-returns-5 : tie.Need-returns-5
-returns-5 c = let z = c.before in text-edit _ _ (ranged (length_at z).before) (size_of z) (small z) c.if5.true
+returns-5 : tie.Need-returns-then-text-size
+returns-5 c = text-edit _ _ (ranged (length_at c.before).before) (size_of c.before) (small c.before) c.if-text-size.true
 
-returns-6 : tie.Need-returns-6
+returns-6 : tie.Need-returns-then-spare-size
 returns-6 c =
-    let z = c.before.before in
-    spare-edit _ _ (ranged (length_at z).before) (size_of z) (small z) c.before.if5.false c.if6.true
+    spare-edit _ _ (ranged (length_at c.before.before).before) (size_of c.before.before) (small c.before.before) c.if-text-size.false c.if-spare-size.true
 
-edit-text-requires : tie.Need-edit-text-requires
+edit-text-requires : tie.Need-edit_text-requires
 edit-text-requires c κs =
-    let z = c.before.before.before.before.before.before in
-    let g = ranged (length_at z).before in
-    (g.fit, ((g.order, (g.inside, size_of z)), (small z, (c.before.before.before.before.before.if5.false, c.before.before.before.before.if6.false))))
+    let g = ranged (length_at c.before.before.before.before.before.before).before in
+    (g.fit, ((g.order, (g.inside, size_of c.before.before.before.before.before.before)), (small c.before.before.before.before.before.before, (c.if-text-size.false, c.if-spare-size.false))))
 
-same_length : tie.Need-same-length
+same_length : tie.Need-shape_of-text
 same_length c = search rules
 
-same-length-2 : tie.Need-same-length-2
+same-length-2 : tie.Need-shape_of-spare
 same-length-2 c = search rules
 
-same-length-3 : tie.Need-same-length-3
+same-length-3 : tie.Need-shape_of-lines
 same-length-3 c = search rules
 
-same-length-4 : tie.Need-same-length-4
+same-length-4 : tie.Need-shape_of-tokens
 same-length-4 c = search rules
 
-returns-7 : tie.Need-returns-7
+returns-7 : tie.Need-returns
 returns-7 c = search rules
 
-pub edit-spec : {M : Type 1} → statement M
-edit-spec =
+pub edit_spec : {M : Type 1} → statement M
+edit_spec =
     tie.close
     (tie.spec
     fits-requires
