@@ -1,4 +1,6 @@
 // The answers of calls on tokens: the number and the values of each at the front of a reply, and how many words they are.
+#![tactic(auto)]
+
 ghost use Rattle.std.specs.Prelude.{◌≡◌, ◌∷◌, length};
 ghost use Rattle.std.proofs.lemmas.List.Edits.{sets};
 ghost use Rattle.token_text.specs.Answers.{part_numbers};
