@@ -1,4 +1,7 @@
-// The C interface: each call hands the answer of an entry point to the reply, and returns how many words it has.
+// The calls of the page: each hands the answer of an entry point to the reply, and returns how many words it has. `lexpage_c` has the same
+// calls for C.
+#![tactic(auto)]
+
 ghost use Rattle.std.specs.Prelude.{◌≡◌, length};
 ghost use Rattle.std.proofs.lemmas.List.Edits.{sets};
 ghost use Rattle.rules.specs.Read.{read_into};
@@ -17,8 +20,7 @@ ghost use Rattle.editing.specs.Answers.{lent};
 ghost use Rattle.lexpage.specs.Edits.{EditReplied};
 
 // A reading of a text by itself.
-#[unsafe(no_mangle)]
-pub extern "C" fn lexpage_read(
+pub fn lexpage_read(
     text: &[u8],
     lines: &mut [u32],
     tokens: &mut [u32],
@@ -33,8 +35,7 @@ pub extern "C" fn lexpage_read(
 }
 
 // The panel column of an offset.
-#[unsafe(no_mangle)]
-pub extern "C" fn lexpage_panel_column(text: &[u8], offset: usize, reply: &mut [u64; 16]) -> u64
+pub fn lexpage_panel_column(text: &[u8], offset: usize, reply: &mut [u64; 16]) -> u64
     ensures value { result ≡ length (column_reply text.now offset) }
     ensures reply_after { reply.new ≡ sets reply.old 0 (column_reply text.now offset) }
 {
@@ -42,8 +43,7 @@ pub extern "C" fn lexpage_panel_column(text: &[u8], offset: usize, reply: &mut [
 }
 
 // The value of a byte literal.
-#[unsafe(no_mangle)]
-pub extern "C" fn lexpage_byte_value(text: &[u8], reply: &mut [u64; 16]) -> u64
+pub fn lexpage_byte_value(text: &[u8], reply: &mut [u64; 16]) -> u64
     ensures value { result ≡ length (value_reply text.now) }
     ensures reply_after { reply.new ≡ sets reply.old 0 (value_reply text.now) }
 {
@@ -51,8 +51,7 @@ pub extern "C" fn lexpage_byte_value(text: &[u8], reply: &mut [u64; 16]) -> u64
 }
 
 // The number at the front of a text.
-#[unsafe(no_mangle)]
-pub extern "C" fn lexpage_number_parts(text: &[u8], reply: &mut [u64; 16]) -> u64
+pub fn lexpage_number_parts(text: &[u8], reply: &mut [u64; 16]) -> u64
     ensures value { result ≡ length (parts_reply text.now) }
     ensures reply_after { reply.new ≡ sets reply.old 0 (parts_reply text.now) }
 {
@@ -60,8 +59,7 @@ pub extern "C" fn lexpage_number_parts(text: &[u8], reply: &mut [u64; 16]) -> u6
 }
 
 // The message of a text's failure.
-#[unsafe(no_mangle)]
-pub extern "C" fn lexpage_report(text: &[u8], out: &mut [u8], reply: &mut [u64; 16]) -> u64
+pub fn lexpage_report(text: &[u8], out: &mut [u8], reply: &mut [u64; 16]) -> u64
     ensures value { result ≡ length (report_into text.now out.old).reply }
     ensures reply_after { reply.new ≡ sets reply.old 0 (report_into text.now out.old).reply }
     ensures out_after { out.new ≡ (report_into text.now out.old).out }
@@ -70,8 +68,7 @@ pub extern "C" fn lexpage_report(text: &[u8], out: &mut [u8], reply: &mut [u64; 
 }
 
 // Where the text of token i of a page stands.
-#[unsafe(no_mangle)]
-pub extern "C" fn lexpage_token_text(
+pub fn lexpage_token_text(
     n: u32,
     m: u32,
     k: u32,
@@ -92,8 +89,7 @@ pub extern "C" fn lexpage_token_text(
 }
 
 // One step of a walk over the token words.
-#[unsafe(no_mangle)]
-pub extern "C" fn lexpage_walk_step(tokens: &[u32], next: usize, reply: &mut [u64; 16]) -> u64
+pub fn lexpage_walk_step(tokens: &[u32], next: usize, reply: &mut [u64; 16]) -> u64
     ensures value { result ≡ length (walk_reply tokens.now next) }
     ensures reply_after { reply.new ≡ sets reply.old 0 (walk_reply tokens.now next) }
 {
@@ -101,8 +97,7 @@ pub extern "C" fn lexpage_walk_step(tokens: &[u32], next: usize, reply: &mut [u6
 }
 
 // The fresh page.
-#[unsafe(no_mangle)]
-pub extern "C" fn lexpage_fresh(lines: &mut [u32], reply: &mut [u64; 16]) -> u64
+pub fn lexpage_fresh(lines: &mut [u32], reply: &mut [u64; 16]) -> u64
     ensures value { result ≡ length (fresh_reply (length lines.old)) }
     ensures reply_after { reply.new ≡ sets reply.old 0 (fresh_reply (length lines.old)) }
     ensures lines_after { lines.new ≡ fresh_lines lines.old }
@@ -111,8 +106,7 @@ pub extern "C" fn lexpage_fresh(lines: &mut [u32], reply: &mut [u64; 16]) -> u64
 }
 
 // An edit of a page: bytes a..b become w.
-#[unsafe(no_mangle)]
-pub extern "C" fn lexpage_edit(
+pub fn lexpage_edit(
     n: u32,
     m: u32,
     k: u32,
@@ -134,8 +128,7 @@ pub extern "C" fn lexpage_edit(
 }
 
 // Whether a page's header and records are those of a fresh reading.
-#[unsafe(no_mangle)]
-pub extern "C" fn lexpage_check(
+pub fn lexpage_check(
     n: u32,
     m: u32,
     k: u32,
