@@ -1,4 +1,6 @@
 // The rows that the program `scan` prints: of a page, of its tokens, and of a refusal.
+#![tactic(auto)]
+
 ghost use Rattle.std.specs.Prelude.{true, [], ◌∷◌, ◌*◌, ◌≤◌, length};
 ghost use Rattle.rules.specs.Records.{token_size, header};
 ghost use Rattle.rules.specs.Report.{decimal};

@@ -6,7 +6,7 @@ use mathlib.Core.Bool.{true}
 use mathlib.Core.List.{List, [], ◌∷◌, ◌++◌, append-nil}
 use native.Mathlib.Omega.{arith}
 use lib.ListN.{length, take, drop, length-append}
-use lib.Seq.{length-take-le}
+use lib.Seq.{sets, length-take-le}
 use borrow.Author.Tests.{lt-ltb, le-ltb}
 use Rattle.rules.specs.Lists.{ascii, concat, overwrite}
 use Rattle.rules.specs.Limits.{barge_line}
@@ -50,11 +50,17 @@ scanned-front t out {r} {O} s =
     (l, sym (length-take-le r O l))
 
 -- 1, for a text over 512 bytes
-pub long-scanned : (t : List ℕ) {out : List ℕ} {r : ℕ} {O : List ℕ} → 512 < length t → 65_536 ≤ length out → Put true out 0 (refused_row 1 ∷ []) O r → Scanned t out r O
+long-row : (t : List ℕ) → 512 < length t → scan_output t ≡ concat (refused_row 1 ∷ [])
 unfolding scan_output
-long-scanned t {out} h k p =
-    let e : refused_row 1 ≡ scan_output t = rw (lt-ltb scan_bytes (length t) h) refl in
-    scanned t (refused-room out 1 k (omega arith)) (concat-one (refused_row 1) ∙ e) p
+long-row t h = rw (lt-ltb scan_bytes (length t) h) (sym (concat-one (refused_row 1)))
+
+pub long_size : (t : List ℕ) → 512 < length t → length (scan_output t) ≡ length (concat (refused_row 1 ∷ []))
+long_size t h = ap length (long-row t h)
+
+pub long_over : (t out : List ℕ) → 512 < length t → 65_536 ≤ length out → overwrite (scan_output t) out ≡ sets out 0 (concat (refused_row 1 ∷ []))
+long_over t out h k =
+    let fits : length (concat (refused_row 1 ∷ [])) ≤ length out = omega (arith, (refused-room out 1 k (omega arith)).fits refl) in
+    ap (λ (s : List ℕ). overwrite s out) (long-row t h) ∙ sym (front-over out (concat (refused_row 1 ∷ [])) fits)
 
 -- A text t of at most 512 bytes, and what `read` left of buffers L and T that hold its records.
 module _ (t L T : List ℕ) (small : length t ≤ 512) (hl : 10_773 ≤ length L) (ht : 5_120 ≤ length T) where

@@ -1,4 +1,6 @@
 // What the program `scan` prints for a text: the rows of its page and tokens, the message of its failure, or its refusal.
+#![tactic(auto)]
+
 ghost use Rattle.std.specs.Prelude.{◌≡◌, true, [], ◌∷◌, ◌≤◌, length};
 ghost use Rattle.rules.specs.Lists.{ascii, overwrite};
 ghost use Rattle.rules.specs.Scan.{scan_output};
@@ -33,6 +35,7 @@ fn put_unread(out: &mut [u8], text: &[u8], u: refusals::Unread) -> usize
 
 // What `scan` prints for a text, at the front of out; its length. 65,536 bytes hold it for every text. So do 513 line records and 1,024
 // token records for a text of 512 bytes: the answers that a buffer is short do not occur.
+#[tactic(auto, using(crate::proofs::Scans::long_size, crate::proofs::Scans::long_over))]
 fn put_scan(out: &mut [u8], text: &[u8]) -> usize
     requires { 65_536 ≤ length out.old }
     ensures value { result ≡ length (scan_output text.now) }
