@@ -165,7 +165,7 @@ fn put_word(words: &mut [u32], from: usize, word: u64, count: u64) -> usize {
 
 // A run at the end of these words: where it ends, or MISMATCH.
 fn put_word_run(field: &[u8], words: &mut [u32], from: usize) -> usize {
-    if check::same(field, b"-") {
+    if field == b"-".as_slice() {
         return from;
     }
     let star = crate::fields::find(field, 0, b'*');

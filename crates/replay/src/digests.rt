@@ -8,7 +8,7 @@ fn times_prime(x: u64) -> u64 {
     let low = x % 4_294_967_296 * 435;
     let high = x / 4_294_967_296 * 435 % 4_294_967_296 * 4_294_967_296;
     let far = x % 16_777_216 * 1_099_511_627_776;
-    std::num::wrapping_add_u64(std::num::wrapping_add_u64(low, high), far)
+    low.wrapping_add(high).wrapping_add(far)
 }
 
 // A digest with one byte more.

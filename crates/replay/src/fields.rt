@@ -1,6 +1,9 @@
 // Fields of recorded lists, in the format of oracle/README.md: numbers read, and numbers that must be the code's. A position in a line is the
 // end of the fields that agree so far, or MISMATCH, which lies past every line.
-ghost use Rattle.std.specs.Prelude.{◌≤◌, length};
+ghost use Rattle.std.specs.Prelude.{◌≡◌, ◌≤◌, ◌↔◌, IsTrue, length};
+ghost use Rattle.std.specs.Fmt.{decimal};
+
+use itoa::Buffer;
 
 // The position after a field that differs.
 pub const MISMATCH: usize = 0xFFFF_FFFF_FFFF_FFFF;
@@ -22,7 +25,7 @@ fn with_digit(value: u64, b: u8) -> u64 {
     if 1_844_674_407_370_955_161 < value {
         return 0;
     }
-    std::num::wrapping_add_u64(10 * value, (b - 48) as u64)
+    (10 * value).wrapping_add((b - 48) as u64)
 }
 
 // The number that a field spells in decimal; any where it spells none below 2^64.
@@ -37,10 +40,11 @@ fn number(field: &[u8]) -> u64 {
 }
 
 // A field spells this number in decimal.
-fn spelled(field: &[u8], value: u64) -> bool {
-    let mut digits: [u8; 20] = [0; 20];
-    let size = io::decimal(value, &mut digits);
-    check::same(field, &digits[..size])
+fn spelled(field: &[u8], value: u64) -> bool
+    ensures { IsTrue result ↔ (field.now ≡ decimal value) }
+{
+    let mut digits = Buffer::new();
+    field == digits.format(value).as_bytes()
 }
 
 // The number that a field spells, or UNSPELLED.

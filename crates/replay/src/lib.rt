@@ -1,14 +1,20 @@
 // The lines of a recorded list, one after another, and how many of them agree with the code.
+#![tactic(auto)]
+
 ghost use Rattle.std.specs.Prelude.{◌≡◌, ◌+◌, ◌≤◌, length};
 
 pub mod buffers;
 pub mod digests;
 pub mod fields;
+pub mod input;
 pub mod recorded_calls;
 pub mod recorded_edits;
 
+use std::io;
+use std::io::Write;
+
 // How many lines agree, how many differ, the number of the first that differs, and where the next line begins.
-#[derive(Drop)]
+#[derive(Clone, Copy)]
 pub struct Tally {
     pub passed: u64,
     pub failed: u64,
@@ -66,16 +72,11 @@ pub fn past_line(t: Tally, end: usize, good: bool) -> Tally
 }
 
 // A tally, its last line `N passed, M failed`.
-pub fn print_tally(t: Tally) {
+pub fn print_tally<W: Write>(output: &mut W, t: Tally) -> io::Result<()> {
     if t.failed != 0 {
-        io::write_all(1, b"first to differ: case ");
-        io::print_decimal(1, t.first);
-        io::write_all(1, b"\n");
+        writeln!(output, "first to differ: case {}", t.first)?;
     }
-    io::print_decimal(1, t.passed);
-    io::write_all(1, b" passed, ");
-    io::print_decimal(1, t.failed);
-    io::write_all(1, b" failed\n");
+    writeln!(output, "{} passed, {} failed", t.passed, t.failed)
 }
 
 // Room for a list.

@@ -3,7 +3,7 @@
 ghost use Rattle.std.specs.Prelude.{◌≤◌, length};
 
 // The functions of `lexpage`.
-#[derive(Drop)]
+#[derive(Clone, Copy)]
 pub enum Function {
     Read,
     PanelColumn,
@@ -19,14 +19,14 @@ pub enum Function {
 }
 
 // A buffer that a line gives: its length, and the position behind its field.
-#[derive(Drop)]
+#[derive(Clone, Copy)]
 struct Given {
     size: usize,
     at: usize,
 }
 
 // The buffers of a call: how many are of bytes and how many of words, the length of each, and the position behind their fields.
-#[derive(Drop)]
+#[derive(Clone, Copy)]
 pub struct Lent {
     pub bytes: u64,
     pub words: u64,
@@ -40,37 +40,19 @@ pub struct Lent {
 
 // The function of this name, without `lexpage_`.
 pub fn function_of(name: &[u8]) -> Function {
-    if check::same(name, b"read") {
-        return Function::Read;
+    match name {
+        b"read" => Function::Read,
+        b"panel_column" => Function::PanelColumn,
+        b"byte_value" => Function::ByteValue,
+        b"number_parts" => Function::NumberParts,
+        b"report" => Function::Report,
+        b"token_text" => Function::TokenText,
+        b"walk_step" => Function::WalkStep,
+        b"fresh" => Function::Fresh,
+        b"edit" => Function::Edit,
+        b"check" => Function::Check,
+        _ => Function::Unknown,
     }
-    if check::same(name, b"panel_column") {
-        return Function::PanelColumn;
-    }
-    if check::same(name, b"byte_value") {
-        return Function::ByteValue;
-    }
-    if check::same(name, b"number_parts") {
-        return Function::NumberParts;
-    }
-    if check::same(name, b"report") {
-        return Function::Report;
-    }
-    if check::same(name, b"token_text") {
-        return Function::TokenText;
-    }
-    if check::same(name, b"walk_step") {
-        return Function::WalkStep;
-    }
-    if check::same(name, b"fresh") {
-        return Function::Fresh;
-    }
-    if check::same(name, b"edit") {
-        return Function::Edit;
-    }
-    if check::same(name, b"check") {
-        return Function::Check;
-    }
-    Function::Unknown
 }
 
 // A buffer of this size, given by a field that ends here, where there is room for so much.

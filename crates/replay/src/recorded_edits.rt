@@ -3,7 +3,7 @@
 ghost use Rattle.std.specs.Prelude.{◌≤◌};
 
 // A list so far: the lengths of its page's buffers, the numbers and bytes held of its edits, the header, and the position in the last line.
-#[derive(Drop)]
+#[derive(Clone, Copy)]
 pub struct Held {
     pub text: usize,
     pub spare: usize,

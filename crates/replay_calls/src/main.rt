@@ -1,8 +1,13 @@
 // Holds the functions of `lexpage` against recorded calls, as in `replay::recorded_calls`: a call a line, with its inputs, its reply, and a digest of
 // each buffer afterwards.
+#![tactic(auto)]
+
 ghost use Rattle.std.specs.Prelude.{◌≤◌, length};
 
+use replay::input::read_full;
 use replay::recorded_calls::{Function, Lent};
+use std::io::{Read, Write};
+use std::{fs, io};
 
 // What is answered for a function that is unknown; no reply has so many words.
 const UNKNOWN: u64 = 99;
@@ -139,10 +144,10 @@ fn replay_lines(
     t
 }
 
-// The list that is read from this descriptor.
-fn replay_list(fd: i32) {
+// The list that is read, and its tally.
+fn replay_list<R: Read, W: Write>(input: &mut R, output: &mut W) -> io::Result<()> {
     let mut list = replay::list_buffer();
-    let size = io::read_full(fd, &mut list);
+    let size = read_full(input, &mut list)?;
     let mut first = replay::buffers::bytes_buffer();
     let mut second = replay::buffers::bytes_buffer();
     let mut third = replay::buffers::bytes_buffer();
@@ -156,11 +161,12 @@ fn replay_list(fd: i32) {
         &mut left,
         &mut right,
     );
-    replay::print_tally(t);
+    replay::print_tally(output, t)
 }
 
 // The lists on standard input, which must agree, and in the file `altered`, where each wrong answer must be found.
-fn main() {
-    replay_list(libc::STDIN_FILENO);
-    replay_list(os::open_read(b"altered"));
+fn main(rt: HostRuntime) -> io::Result<()> {
+    let mut output = io::writer(&rt);
+    replay_list(&mut rt.reader(), &mut output)?;
+    replay_list(&mut fs::open(&rt, "altered")?, &mut output)
 }

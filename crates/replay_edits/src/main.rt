@@ -1,8 +1,13 @@
 // Holds `history::apply_edits` against recorded lists of edits, as in `replay::recorded_edits`. Each edit is replayed with all that stand before it,
 // from the fresh page on.
+#![tactic(auto)]
+
 ghost use Rattle.std.specs.Prelude.{◌≡◌, ◌≤◌, length};
 
+use replay::input::read_full;
 use replay::recorded_edits::Held;
+use std::io::{Read, Write};
+use std::{fs, io};
 
 // The list with a header, at a position that is lost where the header does not follow.
 fn with_header(h: Held, o: history::Outcome, reply: &[u64; 16], at: usize) -> Held {
@@ -129,10 +134,10 @@ fn text_buffer() -> [u8; 1_048_576]
     [0; 1_048_576]
 }
 
-// The list that is read from this descriptor.
-fn replay_list(fd: i32) {
+// The list that is read, and its tally.
+fn replay_list<R: Read, W: Write>(input: &mut R, output: &mut W) -> io::Result<()> {
     let mut list = replay::list_buffer();
-    let size = io::read_full(fd, &mut list);
+    let size = read_full(input, &mut list)?;
     let mut bytes = replay::buffers::bytes_buffer();
     let mut text = text_buffer();
     let mut spare = text_buffer();
@@ -148,11 +153,12 @@ fn replay_list(fd: i32) {
         &mut lines,
         &mut tokens,
     );
-    replay::print_tally(t);
+    replay::print_tally(output, t)
 }
 
 // The lists on standard input, which must agree, and in the file `altered`, where each wrong answer must be found.
-fn main() {
-    replay_list(libc::STDIN_FILENO);
-    replay_list(os::open_read(b"altered"));
+fn main(rt: HostRuntime) -> io::Result<()> {
+    let mut output = io::writer(&rt);
+    replay_list(&mut rt.reader(), &mut output)?;
+    replay_list(&mut fs::open(&rt, "altered")?, &mut output)
 }

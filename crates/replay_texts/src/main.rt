@@ -1,6 +1,12 @@
 // Holds the code against recorded texts, a text with its answers on each line, in the format of oracle/README.md. A position in a line is the
 // end of the fields that agree so far, or MISMATCH, as in `replay::fields`.
+#![tactic(auto)]
+
 ghost use Rattle.std.specs.Prelude.{◌≤◌, length};
+
+use replay::input::read_full;
+use std::io::{Read, Write};
+use std::{fs, io};
 
 // Past the groups after `at`, where they spell the reply, the line words and the token words of a reading.
 fn past_reading(case: &[u8], at: usize, text: &[u8]) -> usize {
@@ -39,7 +45,7 @@ fn past_message(case: &[u8], at: usize, first: usize, text: &[u8]) -> usize {
     if !replay::buffers::spells(end - from, size) {
         return replay::fields::MISMATCH;
     }
-    if !check::same(&out, &wanted) {
+    if out != wanted {
         return replay::fields::MISMATCH;
     }
     if !told(case, first, &reply, count, size) {
@@ -109,15 +115,16 @@ fn replay_lines(list: &[u8]) -> replay::Tally
     t
 }
 
-// The list that is read from this descriptor.
-fn replay_list(fd: i32) {
+// The list that is read, and its tally.
+fn replay_list<R: Read, W: Write>(input: &mut R, output: &mut W) -> io::Result<()> {
     let mut list = replay::list_buffer();
-    let size = io::read_full(fd, &mut list);
-    replay::print_tally(replay_lines(&list[..size]));
+    let size = read_full(input, &mut list)?;
+    replay::print_tally(output, replay_lines(&list[..size]))
 }
 
 // The lists on standard input, which must agree, and in the file `altered`, where each wrong answer must be found.
-fn main() {
-    replay_list(libc::STDIN_FILENO);
-    replay_list(os::open_read(b"altered"));
+fn main(rt: HostRuntime) -> io::Result<()> {
+    let mut output = io::writer(&rt);
+    replay_list(&mut rt.reader(), &mut output)?;
+    replay_list(&mut fs::open(&rt, "altered")?, &mut output)
 }

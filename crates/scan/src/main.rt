@@ -1,8 +1,24 @@
 // Reads a text from standard input and writes what `scan` prints for it. A text longer than 512 bytes is known by its byte 513.
-fn main() {
+#![tactic(auto)]
+
+ghost use Rattle.std.specs.Prelude.{IfSome, OnOk};
+ghost use Rattle.std.specs.Io.KnownBytes.{Appends};
+ghost use Rattle.rules.specs.Scan.{scan_output};
+
+use std::io;
+use std::io::{Read, Write};
+
+// Reads a text and writes what `scan` prints for it.
+fn scan_input<R: Read, W: Write>(input: &mut R, output: &mut W) -> io::Result<()>
+    ensures { OnOk result (IfSome (R.remaining input.old) (λ text. Appends (W.contents output.old) (W.contents output.new) (scan_output text))) }
+{
     let mut text: [u8; 513] = [0; 513];
-    let n = io::read_full(libc::STDIN_FILENO, &mut text);
-    let mut out = io::large_buffer();
+    let n = replay::input::read_full(input, &mut text)?;
+    let mut out: [u8; 65_536] = [0; 65_536];
     let size = scanning::scan(&text[..n], &mut out);
-    io::write_all(libc::STDOUT_FILENO, &out[..size]);
+    output.write_all(&out[..size])
+}
+
+fn main(rt: HostRuntime) -> io::Result<()> {
+    scan_input(&mut rt.reader(), &mut io::writer(&rt))
 }
