@@ -1,6 +1,6 @@
 //! Tells the linker where the proved library lies.
 
-/// `rt staticlib lexpage` writes it there.
+/// `bindings/library` writes it there.
 fn main() {
     let folder = concat!(env!("CARGO_MANIFEST_DIR"), "/../target/staticlib");
     println!("cargo::rustc-link-search=native={folder}");

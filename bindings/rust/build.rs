@@ -12,7 +12,7 @@ fn main() {
     println!("cargo::rerun-if-changed={}", library.display());
     if !library.is_file() {
         println!("cargo::error=there is no {}", library.display());
-        println!("cargo::error=make it with `rt staticlib lexpage` at the top of the repository, or let LEXPAGE_LIB_DIR be the absolute path of the folder that holds it");
+        println!("cargo::error=make it with `bindings/library` at the top of the repository, or let LEXPAGE_LIB_DIR be the absolute path of the folder that holds it");
         process::exit(1);
     }
     println!("cargo::rustc-link-search=native={}", folder.display());

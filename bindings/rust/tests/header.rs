@@ -1,4 +1,4 @@
-//! The same functions with the same parameters in `src/declarations.rs`, in `include/lexpage.h` and in the Rattle crate `lexpage`.
+//! The same functions with the same parameters in `src/declarations.rs`, in `include/lexpage.h` and in the Rattle crate `lexpage_c`.
 use std::fs;
 
 type Functions = Vec<(String, Vec<String>)>;
@@ -66,7 +66,7 @@ fn declarations_agree() {
     assert_eq!(rust.len(), 10);
     assert_eq!(declared("include/lexpage.h", "uint64_t lexpage_", from_c), rust);
     assert_eq!(
-        declared("crates/lexpage/src/lib.rt", "extern \"C\" fn lexpage_", from_rattle),
+        declared("crates/lexpage_c/src/lib.rt", "extern \"C\" fn lexpage_", from_rattle),
         rust
     );
 }

@@ -122,7 +122,7 @@ fn l11_sixteen_levels() {
 #[test]
 fn kinds_are_those_of_the_rules() {
     let kinds = definitions("Kinds");
-    let list = kinds.split("kindNames =").nth(1).unwrap().split("[]").next().unwrap();
+    let list = kinds.split("kind_names =").nth(1).unwrap().split("[]").next().unwrap();
     let names: Vec<&str> = list.split('"').skip(1).step_by(2).collect();
     assert_eq!(TokenKind::ALL.map(TokenKind::name).to_vec(), names);
     for (number, kind) in TokenKind::ALL.into_iter().enumerate() {
