@@ -5,10 +5,22 @@ use mathlib.Core.Path.{◌≡◌, sym, ap, ◌∙◌}
 use mathlib.Core.List.{List, ◌++◌, append_assoc}
 use native.Mathlib.Omega.{arith}
 use lib.ListN.{length, take, drop, length-append, length-drop, take-append-drop}
-use lib.Seq.{sets, sets-eq, length-take-le, take-add, take-take, drop_at}
+use lib.Seq.{sets, sets-eq, length-take-le, take-take}
+use borrow.Rule.Slice.PartMut.{put_mid}
+use Rattle.std.proofs.Common.{drop-drop}
+use Rattle.std.proofs.lemmas.Slice.{between_is}
 use Rattle.laws.proofs.Sets.{sets_append, sets_before}
 use Rattle.rules.specs.Lists.{overwrite}
 use Rattle.rules.specs.StopRule.{edited}
+
+-- a run copied over a part of the buffer
+pub run_put : (l vs ys : List ℕ) (i k : ℕ) → ys ≡ vs → k ≡ length vs → i + length vs ≤ length l → put_mid i k l ys ≡ sets l i vs
+run_put l vs ys i k e n h =
+    ap (λ (x : List ℕ). take i l ++ (x ++ drop k (drop i l))) e
+    ∙ ap (λ (m : ℕ). take i l ++ (vs ++ drop m (drop i l))) n
+    ∙ ap (λ (x : List ℕ). take i l ++ (vs ++ x)) (drop-drop (length vs) i l)
+    ∙ sym (append_assoc (take i l) vs (drop (i + length vs) l))
+    ∙ sym (sets-eq vs l i h)
 
 -- a run from index i on, after what the buffer has there
 pub run-over : (l : List ℕ) (i : ℕ) (vs : List ℕ) → i + length vs ≤ length l → sets l i vs ≡ overwrite (take i l ++ vs) l
@@ -38,12 +50,6 @@ pub copied_back : (text spare u : List ℕ) (a n : ℕ) → take n spare ≡ u �
     → sets text a (drop a (take n spare)) ≡ overwrite u text
 copied_back text spare u a n es eu h k e = ap (λ (x : List ℕ). sets text a (drop a x)) es ∙ back-over text u a (omega arith) (omega arith) e
 
--- a part of a text
-pub drop_take : (b n : ℕ) (t : List ℕ) → b ≤ n → n ≤ length t → drop b (take n t) ≡ take (n - b) (drop b t)
-drop_take b n t h k =
-    let e : n ≡ b + (n - b) = omega arith in
-    ap (λ (x : ℕ). drop b (take x t)) e ∙ ap (drop b) (take-add b (n - b) t) ∙ drop_at (take b t) (take (n - b) (drop b t)) b (length-take-le b t (omega arith))
-
 -- the three runs of an edited text, in a spare
 pub spliced : (s t w : List ℕ) (n a b : ℕ) → a ≤ b → b ≤ n → n ≤ length t → a + length w + (n - b) ≤ length s
     → sets (sets (sets s 0 (take a t)) a w) (a + length w) (take (n - b) (drop b t)) ≡ overwrite (edited (take n t) (record { a = a; b = b; w = w })) s
@@ -51,7 +57,7 @@ unfolding edited
 spliced s t w n a b hab hbn hn room =
     let x : List ℕ = take a t in
     let z : List ℕ = drop b (take n t) in
-    let ez : take (n - b) (drop b t) ≡ z = sym (drop_take b n t hbn hn) in
+    let ez : take (n - b) (drop b t) ≡ z = between_is t b n in
     let lz : length z ≡ n - b = ap length (sym ez) ∙ length-take-le (n - b) (drop b t) (omega (arith, length-drop b t)) in
     let lx : length x ≡ a = length-take-le a t (omega arith) in
     let e1 : a ≡ 0 + length x = omega arith in

@@ -11,11 +11,7 @@ pub fn copy_bytes(dst: &mut [u8], at: usize, src: &[u8])
     requires { at + length src.now ≤ length dst.old }
     ensures { dst.new ≡ sets dst.old at src.now }
 {
-    let mut j: usize = 0;
-    while j < src.len() {
-        dst[at + j] = src[j];
-        j += 1;
-    }
+    dst[at..at + src.len()].copy_from_slice(src);
 }
 
 // The first n bytes of the text, of which a..b become w, at the spare's front.
@@ -33,5 +29,5 @@ pub fn copy_back(spare: &[u8], text: &mut [u8], a: usize, n: usize)
     requires { (a ≤ n) × (n ≤ length spare.now) × (n ≤ length text.old) }
     ensures { text.new ≡ sets text.old a (drop a (take n spare.now)) }
 {
-    copy_bytes(text, a, &spare[a..n]);
+    text[a..n].copy_from_slice(&spare[a..n]);
 }

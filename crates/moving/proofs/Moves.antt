@@ -1,19 +1,148 @@
--- Records of any width moved within one list: where they stand, down (the first first) and up (the last first).
+-- Records moved within one list: where they stand, down (the first first) and up (the last first).
 -- Assumes nothing.
-use Rattle.std.proofs.Common.{◌≡◌, ℕ, zero, suc, ◌+◌, ◌-◌, ◌*◌, ◌<◌, ◌≤◌, Bool, true, false, List, [], ◌∷◌, ◌++◌, length, get_or, set, sym, refl, ap, ◌∙◌, subst, append-nil, add-zero, add_assoc, mul-le-mul_left, zero-add, arith, get_or-set_other}
-use lib.Seq.{sets, length-sets, set-get_or}
-use Rattle.laws.specs.Blocks.{blocks}
+use Rattle.std.specs.List.{copy_within}
+use Rattle.std.proofs.Common.{subst, get_or-set_same, length-append, append_assoc, ◌-◌, ◌≡◌, ℕ, zero, suc, ◌+◌, ◌*◌, ◌<◌, ◌≤◌, List, [], ◌∷◌, ◌++◌, length, get_or, set, take, drop, sym, refl, ap, ◌∙◌, append-nil, add-zero, add-suc, suc-add, mul-le-mul_left, zero-add, arith, length-set, length-drop}
+use Rattle.std.proofs.lemmas.List.{set-set}
+use lib.Seq.{sets, sets-eq, paste, set-get_or, ext_get_or, get_or-take, get_or-drop, length-take-le, take_at, drop_at}
+use Rattle.laws.specs.Blocks.{blocks, table}
+use Rattle.laws.proofs.Below.{entry}
 use Rattle.laws.proofs.Sets.{sets_append, sets_before, blocks-same, blocks_from, blocks_append, blocks_length, get_or_sets_above, get_or_sets_below}
 use Rattle.rules.specs.Records.{line_size, token_size}
-use Rattle.rules.proofs.RecordLaws.{state_size}
-use Rattle.words.specs.Words.{Way, place, words}
-use Rattle.moving.specs.Moved.{word_values, distance, shifted, size_of, moved_token, moved_line, moved_record}
-use Rattle.words.proofs.Words.{length_words, words-at, words_same, words_append, get_or_sets_in, sets_again, sets_words, low}
+use Rattle.moving.specs.Moved.{word_values, shifted, words, moved_record, moved_token, moved_line}
+
+-- Words.
+
+table_length : (f : ℕ → ℕ) (i n : ℕ) → length (table f i n) ≡ n
+table_length f i zero = refl
+table_length f i (suc n) = ap suc (table_length f (suc i) n)
+
+table_same : (f g : ℕ → ℕ) (i n : ℕ) → ((t : ℕ) → t < i + n → f t ≡ g t) → table f i n ≡ table g i n
+table_same f g i zero h = refl
+table_same f g i (suc n) h =
+    ap (λ (x : ℕ). x ∷ table f (suc i) n) (h i (omega arith)) ∙ ap (λ (r : List ℕ). g i ∷ r) (table_same f g (suc i) n (λ t v. h t (omega arith)))
+
+pub length_words : (ws : List ℕ) (i n : ℕ) → length (words ws i n) ≡ n
+unfolding words
+length_words ws i n = table_length (λ t. get_or ws (i + t) 0) 0 n
+
+words-at : (ws : List ℕ) (i n t : ℕ) → t < n → get_or (words ws i n) t 0 ≡ get_or ws (i + t) 0
+unfolding words
+words-at ws i n t h = entry (λ t. get_or ws (i + t) 0) n t 0 h
+
+-- the same words at another place of another list
+words_same : (ws l : List ℕ) (i k n : ℕ) → ((t : ℕ) → t < n → get_or ws (i + t) 0 ≡ get_or l (k + t) 0) → words ws i n ≡ words l k n
+unfolding words
+words_same ws l i k n h = table_same (λ t. get_or ws (i + t) 0) (λ t. get_or l (k + t) 0) 0 n (λ t v. h t (omega arith))
+
+-- words are a part of the list
+pub words_take : (ws : List ℕ) (i n : ℕ) → i + n ≤ length ws → words ws i n ≡ take n (drop i ws)
+words_take ws i n h =
+    ext_get_or 0 (words ws i n) (take n (drop i ws)) (length_words ws i n ∙ sym (length-take-le n (drop i ws) (omega (arith, length-drop i ws))))
+    (λ t v. words-at ws i n t (omega (arith, length_words ws i n)) ∙ sym (get_or-take n (drop i ws) t 0 (omega (arith, length_words ws i n)) ∙ get_or-drop i ws t 0))
+
+-- a read within a run of stores
+get_or_sets_in : (vs l : List ℕ) (i t : ℕ) → t < length vs → i + length vs ≤ length l → get_or (sets l i vs) (i + t) 0 ≡ get_or vs t 0
+get_or_sets_in [] l i t h k = absurd (omega arith)
+get_or_sets_in (v ∷ vs) l i zero h k =
+    ap (λ (n : ℕ). get_or (sets (set l i v) (suc i) vs) n 0) (add-zero i)
+    ∙ get_or_sets_below vs (set l i v) (suc i) i 0 (omega arith)
+    ∙ get_or-set_same l i v 0 (omega arith)
+get_or_sets_in (v ∷ vs) l i (suc t) h k =
+    ap (λ (n : ℕ). get_or (sets (set l i v) (suc i) vs) n 0) (add-suc i t ∙ sym (suc-add i t))
+    ∙ get_or_sets_in vs (set l i v) (suc i) t (omega arith) (omega (arith, length-set l i v))
+
+-- one run over another of the same length
+sets_again : (vs ws l : List ℕ) (i : ℕ) → length vs ≡ length ws → i + length vs ≤ length l → sets (sets l i vs) i ws ≡ sets l i ws
+sets_again vs ws l i e h =
+    let rest : List ℕ = drop (i + length vs) l in
+    let n : length (take i l) ≡ i = length-take-le i l (omega arith) in
+    let m : length (take i l ++ vs) ≡ i + length ws = length-append (take i l) vs ∙ omega arith in
+    ap (λ (k : List ℕ). sets k i ws) (sets-eq vs l i h)
+    ∙ sets-eq ws ((take i l ++ vs) ++ rest) i (omega (arith, length-append (take i l ++ vs) rest))
+    ∙ ap (λ (k : List ℕ). (k ++ ws) ++ drop (i + length ws) ((take i l ++ vs) ++ rest)) (ap (take i) (append_assoc (take i l) vs rest) ∙ take_at (take i l) (vs ++ rest) i n)
+    ∙ ap (λ (k : List ℕ). (take i l ++ ws) ++ k) (drop_at (take i l ++ vs) rest (i + length ws) m ∙ ap (λ (k : ℕ). drop (i + k) l) e)
+    ∙ sym (sets-eq ws l i (omega arith))
+
+-- words stored where they stand
+sets_words : (l : List ℕ) (i n : ℕ) → sets l i (words l i n) ≡ l
+unfolding words
+sets_words l i n = ap (λ (k : ℕ). sets l k (words l i n)) (sym (add-zero i)) ∙ go 0 n
+  where
+    go : (s n : ℕ) → sets l (i + s) (table (λ t. get_or l (i + t) 0) s n) ≡ l
+    go s zero = refl
+    go s (suc n) =
+        ap (λ (k : List ℕ). sets k (suc (i + s)) (table (λ t. get_or l (i + t) 0) (suc s) n)) (set-get_or l (i + s) 0)
+        ∙ ap (λ (k : ℕ). sets l k (table (λ t. get_or l (i + t) 0) (suc s) n)) (sym (add-suc i s))
+        ∙ go (suc s) n
+
+-- a word of a run that was stored, stored again
+set_in : (vs l : List ℕ) (i k v : ℕ) → k < length vs → set (sets l i vs) (i + k) v ≡ sets l i (set vs k v)
+set_in [] l i k v h = absurd (omega arith)
+set_in (x ∷ vs) l i zero v h =
+    let e : suc i ≡ i + 1 = omega arith in
+    ap (λ (n : ℕ). set (sets (set l i x) (suc i) vs) n v) (add-zero i)
+    ∙ ap (λ (n : ℕ). set (sets (set l i x) n vs) i v) e
+    ∙ sets_before (v ∷ []) vs (set l i x) i
+    ∙ ap (λ (k : List ℕ). sets k (suc i) vs) (set-set l i x v)
+set_in (x ∷ vs) l i (suc k) v h =
+    ap (λ (n : ℕ). set (sets (set l i x) (suc i) vs) n v) (add-suc i k ∙ sym (suc-add i k)) ∙ set_in vs (set l i x) (suc i) k v (omega arith)
+
+-- One record.
 
 -- a record is w words, made of the w words at its place
 pub record Width (w : ℕ) (g : List ℕ → ℕ → List ℕ) : Type 0 where
   pub wide : (ws : List ℕ) (i : ℕ) → length (g ws i) ≡ w
   pub near : (ws l : List ℕ) (i k : ℕ) → ((t : ℕ) → t < w → get_or ws (i + t) 0 ≡ get_or l (k + t) 0) → g ws i ≡ g l k
+
+module _ (size a b d e : ℕ) (a_in : a < size) (b_in : b < size) where
+  pub record_width : Width size (moved_record size a b d e)
+  unfolding moved_record
+  record_width =
+      record {
+        wide = λ ws i.
+            let vs : List ℕ = words ws i size in
+            let x : ℕ = shifted d (get_or ws (i + a) 0) in
+            length-set (set vs a x) b (shifted e (get_or ws (i + b) 0)) ∙ length-set vs a x ∙ length_words ws i size;
+        near = λ ws l i k h. λ t. set (set (words_same ws l i k size h t) a (shifted d (h a a_in t))) b (shifted e (h b b_in t));
+      }
+
+  -- two of its words shifted where it stands
+  pub record_shifted : (l : List ℕ) (at x y : ℕ) → x ≡ shifted d (get_or l (at + a) 0) → y ≡ shifted e (get_or l (at + b) 0)
+      → set (set l (at + a) x) (at + b) y ≡ sets l at (moved_record size a b d e l at)
+  unfolding moved_record
+  record_shifted l at x y ex ey =
+      let vs : List ℕ = words l at size in
+      let n = length_words l at size in
+      ap (λ (k : List ℕ). set (set k (at + a) x) (at + b) y) (sym (sets_words l at size))
+      ∙ ap (λ (k : List ℕ). set k (at + b) y) (set_in vs l at a x (omega (arith, n)))
+      ∙ set_in (set vs a x) l at b y (omega (arith, n, length-set vs a x))
+      ∙ (λ t. sets l at (set (set vs a (ex t)) b (ey t)))
+
+  -- a move by nothing
+  pub record_kept : (l : List ℕ) → ((i : ℕ) → get_or l i 0 < word_values) → d ≡ 0 → e ≡ 0 → (i : ℕ) → moved_record size a b d e l i ≡ words l i size
+  unfolding moved_record shifted
+  record_kept l small ed ee i =
+      let vs : List ℕ = words l i size in
+      ap (λ (x : ℕ). set (set vs a x) b (shifted e (get_or l (i + b) 0))) (unshifted d a ed a_in)
+      ∙ ap (λ (k : List ℕ). set k b (shifted e (get_or l (i + b) 0))) (set-get_or vs a 0)
+      ∙ ap (λ (x : ℕ). set vs b x) (unshifted e b ee b_in)
+      ∙ set-get_or vs b 0
+    where
+      unshifted : (by k : ℕ) → by ≡ 0 → k < size → shifted by (get_or l (i + k) 0) ≡ get_or (words l i size) k 0
+      unshifted by k h v = omega (arith, small (i + k), words-at l i size k v)
+
+-- a part of a list copied over another part of it
+pub words_copied : (l : List ℕ) (s d n : ℕ) → s + n ≤ length l → d + n ≤ length l → copy_within l s (s + n) d ≡ sets l d (words l s n)
+words_copied l s d n from to =
+    let e : s + n - s ≡ n = omega arith in
+    let vs : List ℕ = take n (drop s l) in
+    let long : length vs ≡ n = length-take-le n (drop s l) (omega (arith, length-drop s l)) in
+    (λ t. paste l d (drop s l) (e t))
+    ∙ ap (λ (k : ℕ). take d l ++ vs ++ drop (d + k) l) (sym long)
+    ∙ sym (sets-eq vs l d (omega (arith, long)))
+    ∙ ap (sets l d) (sym (words_take l s n from))
+
+-- Records one after the other.
 
 module _ {w : ℕ} {g : List ℕ → ℕ → List ℕ} (r : Width w g) (l : List ℕ) where
   -- n records' words brought from record s to record d, then made records there
@@ -80,68 +209,48 @@ module _ {w : ℕ} {g : List ℕ → ℕ → List ℕ} (r : Width w g) (l : List
         word t i u h = ap (λ (k : List ℕ). get_or k (i + t) 0) e ∙ get_or_sets_below (blocks (λ j. g l (at j)) j₁ n) l b₁ (i + t) 0 (omega arith)
 
     -- the next one
-    pub down_turn : (ws : List ℕ) (base j b : ℕ) → ws ≡ sets l base (blocks (λ j. g l (at j)) 0 j) → b ≡ base + j * w → b ≤ at j
-        → sets ws b (g ws (at j)) ≡ sets l base (blocks (λ j. g l (at j)) 0 (j + 1))
-    down_turn ws base j b e eb h =
-        ap (sets ws b) (sym (append-nil (g ws (at j))))
+    pub down_turn : (ws ws₁ : List ℕ) (base j b : ℕ) → ws₁ ≡ sets ws b (g ws (at j)) → ws ≡ sets l base (blocks (λ j. g l (at j)) 0 j) → b ≡ base + j * w → b ≤ at j
+        → ws₁ ≡ sets l base (blocks (λ j. g l (at j)) 0 (j + 1))
+    down_turn ws ws₁ base j b now e eb h =
+        now
+        ∙ ap (sets ws b) (sym (append-nil (g ws (at j))))
         ∙ down_more ws base j 1 b (λ i. at j) e eb (λ i v. ap at (omega arith)) (λ i v. subst (λ (k : ℕ). b ≤ at k) (omega arith) h)
 
--- Records moved a part at a time, either way: the words of k records are brought from their place to another, and made records there.
-module _ {w : ℕ} {g : List ℕ → ℕ → List ℕ} (r : Width w g) (l ws ws₁ : List ℕ) (s d k done : ℕ) where
+-- Records brought a batch of k at a time.
+module _ {w : ℕ} {g : List ℕ → ℕ → List ℕ} (r : Width w g) (l ws ws₁ : List ℕ) (s d k : ℕ) where
   abbrev f : ℕ → List ℕ
   f j = g l (w * (s + j))
 
-  part_down : d ≤ s → w * (d + (done + k)) ≤ length l → ws ≡ sets l (w * d) (blocks f 0 done) → ws₁ ≡ sets ws (w * (d + done)) (words ws (w * (s + done)) (w * k))
-      → sets ws₁ (w * (d + done)) (blocks (λ i. g ws₁ (w * (d + done + i))) 0 k) ≡ sets l (w * d) (blocks f 0 (done + k))
-  part_down way room e e₁ =
-      let n = ap length e ∙ length-sets l (w * d) (blocks f 0 done) in
-      all_brought r ws ws₁ (s + done) (d + done) k (omega arith) e₁
-      ∙ down_more r l (λ i. w * (s + i)) ws (w * d) done k (w * (d + done)) (λ i. w * (s + done + i)) e (omega arith) (λ i v. omega arith) (λ i v. above i)
+  -- the next batch after the first j, down
+  pub batch_down : (j done m : ℕ) → d ≤ s → done ≡ j → m ≡ j + k → ws ≡ sets l (w * d) (blocks f 0 done) → ws₁ ≡ sets ws (w * (d + j)) (blocks (λ i. g ws (w * (s + j + i))) 0 k)
+      → ws₁ ≡ sets l (w * d) (blocks f 0 m)
+  batch_down j done m way ed em e now =
+      let so : ws ≡ sets l (w * d) (blocks f 0 j) = e ∙ ap (λ (n : ℕ). sets l (w * d) (blocks f 0 n)) ed in
+      now
+      ∙ down_more r l (λ i. w * (s + i)) ws (w * d) j k (w * (d + j)) (λ i. w * (s + j + i)) so (omega arith) (λ i v. omega arith) (λ i v. above i)
+      ∙ ap (λ (n : ℕ). sets l (w * d) (blocks f 0 n)) (sym em)
     where
-      above : (i : ℕ) → w * (d + done) ≤ w * (s + (done + i))
-      above i = let h : d + done ≤ s + (done + i) = omega arith in mul-le-mul_left w h
+      above : (i : ℕ) → w * (d + j) ≤ w * (s + (j + i))
+      above i = let h : d + j ≤ s + (j + i) = omega arith in mul-le-mul_left w h
 
-  part_up : (j x : ℕ) → s ≤ d → x ≡ j + k → w * (d + (x + done)) ≤ length l → ws ≡ sets l (w * (d + x)) (blocks f x done)
-      → ws₁ ≡ sets ws (w * (d + j)) (words ws (w * (s + j)) (w * k))
-      → sets ws₁ (w * (d + j)) (blocks (λ i. g ws₁ (w * (d + j + i))) 0 k) ≡ sets l (w * (d + j)) (blocks f j (k + done))
-  part_up j x way q room e e₁ =
-      let n = ap length e ∙ length-sets l (w * (d + x)) (blocks f x done) in
-      let room₁ : w * (d + (j + k + done)) ≤ length l = subst (λ (y : ℕ). w * (d + (y + done)) ≤ length l) q room in
-      all_brought r ws ws₁ (s + j) (d + j) k (omega arith) e₁
-      ∙ up_more r l (λ i. w * (s + i)) ws j x k done (w * (d + j)) (w * (d + x)) (λ i. w * (s + j + i)) e q (ap (λ (y : ℕ). w * (d + y)) q ∙ omega arith) (λ i v. omega arith) (λ i v. below i v)
+  -- the batch before the n records from x on, up
+  pub batch_up : (j left x n m : ℕ) → s ≤ d → left ≡ j → x ≡ j + k → m ≡ k + n → ws ≡ sets l (w * (d + x)) (blocks f x n)
+      → ws₁ ≡ sets ws (w * (d + j)) (blocks (λ i. g ws (w * (s + j + i))) 0 k) → ws₁ ≡ sets l (w * (d + left)) (blocks f left m)
+  batch_up j left x n m way el q em e now =
+      now
+      ∙ up_more r l (λ i. w * (s + i)) ws j x k n (w * (d + j)) (w * (d + x)) (λ i. w * (s + j + i)) e q (ap (λ (y : ℕ). w * (d + y)) q ∙ omega arith) (λ i v. omega arith) (λ i v. below i v)
+      ∙ ap (λ (k : ℕ). sets l (w * (d + j)) (blocks f j k)) (sym em)
+      ∙ ap (λ (i : ℕ). sets l (w * (d + i)) (blocks f i m)) (sym el)
     where
       below : (i : ℕ) → i < k → w * (s + (j + i)) + w ≤ w * (d + x)
       below i v = let h : s + (j + i) + 1 ≤ d + x = omega arith in omega (arith, mul-le-mul_left w h)
 
--- the first of those that are moved, when `done` of n are
-abbrev pub first_moved : (up : Bool) → (n done : ℕ) → ℕ
-first_moved true n done = n - done
-first_moved false n done = 0
-
--- so far `done` of n records are moved from s to d
-abbrev pub records_so : (w : ℕ) (g : List ℕ → ℕ → List ℕ) (up : Bool) → List ℕ → (s d n done : ℕ) → List ℕ
-records_so w g up l s d n done = sets l (w * low up d n done) (blocks (λ j. g l (w * (s + j))) (first_moved up n done) done)
-
-pub records-next : {w : ℕ} {g : List ℕ → ℕ → List ℕ} → Width w g → (up : Bool) (l ws ws₁ : List ℕ) (s d n done k : ℕ) → Way up s d → done + k ≤ n → w * (d + n) ≤ length l
-    → ws ≡ records_so w g up l s d n done
-    → ws₁ ≡ sets ws (w * (d + place up done k n)) (words ws (w * (s + place up done k n)) (w * k))
-    → sets ws₁ (w * (d + place up done k n)) (blocks (λ i. g ws₁ (w * (d + place up done k n + i))) 0 k) ≡ records_so w g up l s d n (done + k)
-records-next {w} {g} r true l ws ws₁ s d n done k way h room e e₁ =
-    let at : n - done - k ≡ n - (done + k) = omega arith in
-    let count : k + done ≡ done + k = omega arith in
-    let all : n ≡ n - done + done = omega arith in
-    part_up r l ws ws₁ s d k done (n - done - k) (n - done) way (omega arith) (subst (λ (y : ℕ). w * (d + y) ≤ length l) all room) e e₁
-    ∙ (λ t. sets l (w * (d + at t)) (blocks (λ j. g l (w * (s + j))) (at t) (count t)))
-records-next {w} {g} r false l ws ws₁ s d n done k way h room e e₁ =
-    let b : d + (done + k) ≤ d + n = omega arith in
-    part_down r l ws ws₁ s d k done way (omega (arith, mul-le-mul_left w b)) e e₁
-
-pub records-all : (w : ℕ) (g : List ℕ → ℕ → List ℕ) (up : Bool) (l : List ℕ) (s d n : ℕ) → records_so w g up l s d n n ≡ sets l (w * d) (blocks (λ j. g l (w * (s + j))) 0 n)
-records-all w g true l s d n =
-    let z : n - n ≡ 0 = omega arith in
-    let a : d + (n - n) ≡ d = omega arith in
-    λ t. sets l (w * a t) (blocks (λ j. g l (w * (s + j))) (z t) n)
-records-all w g false l s d n = refl
+  -- one batch: its words copied, and then made records
+  pub batch_brought : w * (s + k) ≤ length l → w * (d + k) ≤ length l → ws ≡ copy_within l (w * s) (w * (s + k)) (w * d) → ws₁ ≡ sets ws (w * d) (blocks (λ j. g ws (w * (d + j))) 0 k)
+      → ws₁ ≡ sets l (w * d) (blocks f 0 k)
+  batch_brought from to e now =
+      let end : w * (s + k) ≡ w * s + w * k = omega arith in
+      now ∙ all_brought r l ws s d k to (e ∙ ap (λ (n : ℕ). copy_within l (w * s) n (w * d)) end ∙ words_copied l (w * s) (w * d) (w * k) (omega arith) (omega arith))
 
 -- records that are the words where they stand
 pub blocks_still : (w : ℕ) (l : List ℕ) (f : ℕ → List ℕ) (from : ℕ) → ((j : ℕ) → f j ≡ words l (w * (from + j)) w) → (i n : ℕ) → sets l (w * (from + i)) (blocks f i n) ≡ l
@@ -154,108 +263,10 @@ blocks_still w l f from h i (suc n) =
     ∙ ap (λ (k : ℕ). sets l k (blocks f (suc i) n)) next
     ∙ blocks_still w l f from h (suc i) n
 
--- distances as the code has them, and the record where the move ends
-pub by_bases : (w : ℕ) (g : ℕ → ℕ → List ℕ → ℕ → List ℕ) (p p' k k' : ℕ) (l : List ℕ) (from n d e i j : ℕ) → d ≡ distance p p' → e ≡ distance k k' → i ≡ j
-    → sets l (w * i) (blocks (λ j. g d e l (w * (from + j))) 0 n) ≡ sets l (w * j) (blocks (λ j. g (distance p p') (distance k k') l (w * (from + j))) 0 n)
-by_bases w g p p' k k' l from n d e i j ed ee ei = λ t. sets l (w * ei t) (blocks (λ j. g (ed t) (ee t) l (w * (from + j))) 0 n)
-
--- a word stored where it stands already
-set_kept : (l k : List ℕ) (i : ℕ) → get_or l i 0 ≡ get_or k i 0 → set l i (get_or k i 0) ≡ l
-set_kept l k i e = ap (set l i) (sym e) ∙ set-get_or l i 0
-
--- Token records.
+-- Token records and line records.
 
 pub token-width : (d e : ℕ) → Width token_size (moved_token d e)
-unfolding moved_token
-token-width d e =
-    record {
-      wide = λ ws i. refl;
-      near = λ ws l i k h.
-          let a : get_or ws i 0 ≡ get_or l k 0 = rw (add-zero i, add-zero k) at (h 0 (omega arith)) in
-          rw (a, h 1 (omega arith), h 2 (omega arith), h 3 (omega arith), h 4 (omega arith));
-    }
-
--- the two words that change
-pub token-stores : (d e : ℕ) (l : List ℕ) (i x y : ℕ) → x ≡ shifted d (get_or l (i + 1) 0) → y ≡ shifted e (get_or l (i + 3) 0)
-    → set (set l (i + 1) x) (i + 3) y ≡ sets l i (moved_token d e l i)
-unfolding moved_token
-token-stores d e l i x y ex ey =
-    let e1 : i + 1 ≡ suc i = omega arith in
-    let e2 : i + 2 ≡ suc (suc i) = omega arith in
-    let e3 : i + 3 ≡ suc (suc (suc i)) = omega arith in
-    let e4 : i + 4 ≡ suc (suc (suc (suc i))) = omega arith in
-    rw (ex, ey, e1, e2, e3, e4) (go (shifted d (get_or l (suc i) 0)) (shifted e (get_or l (suc (suc (suc i))) 0)))
-  where
-    go : (x y : ℕ) → set (set l (suc i) x) (suc (suc (suc i))) y
-        ≡ sets l i (get_or l i 0 ∷ x ∷ get_or l (suc (suc i)) 0 ∷ y ∷ get_or l (suc (suc (suc (suc i)))) 0 ∷ [])
-    go x y =
-        let a : List ℕ = set l (suc i) x in
-        let b : List ℕ = set a (suc (suc (suc i))) y in
-        sym (ap (λ (k : List ℕ). sets k (suc i) (x ∷ get_or l (suc (suc i)) 0 ∷ y ∷ get_or l (suc (suc (suc (suc i)))) 0 ∷ [])) (set-get_or l i 0)
-        ∙ ap (λ (k : List ℕ). sets k (suc (suc (suc i))) (y ∷ get_or l (suc (suc (suc (suc i)))) 0 ∷ []))
-        (set_kept a l (suc (suc i)) (get_or-set_other l (suc i) (suc (suc i)) x 0 (omega arith)))
-        ∙ set_kept b l (suc (suc (suc (suc i))))
-        (get_or-set_other a (suc (suc (suc i))) (suc (suc (suc (suc i)))) y 0 (omega arith) ∙ get_or-set_other l (suc i) (suc (suc (suc (suc i)))) x 0 (omega arith)))
-
--- Line records.
+token-width d e = record_width token_size 1 3 d e (omega arith) (omega arith)
 
 pub line-width : (d e : ℕ) → Width line_size (moved_line d e)
-unfolding moved_line
-line-width d e =
-    record {
-      wide = λ ws i. ap (λ (n : ℕ). suc (suc n)) (length_words ws (i + 2) state_size);
-      near = λ ws l i k h.
-          let a : get_or ws i 0 ≡ get_or l k 0 = rw (add-zero i, add-zero k) at (h 0 (omega arith)) in
-          let b : words ws (i + 2) state_size ≡ words l (k + 2) state_size = words_same ws l (i + 2) (k + 2) state_size (λ t v. later ws l i k t (h (2 + t) (omega arith))) in
-          rw (a, h 1 (omega arith), b);
-    }
-  where
-    later : (ws l : List ℕ) (i k t : ℕ) → get_or ws (i + (2 + t)) 0 ≡ get_or l (k + (2 + t)) 0 → get_or ws (i + 2 + t) 0 ≡ get_or l (k + 2 + t) 0
-    later ws l i k t h = rw (add_assoc i 2 t, add_assoc k 2 t) h
-
-pub line-stores : (d e : ℕ) (l : List ℕ) (i x y : ℕ) → x ≡ shifted d (get_or l i 0) → y ≡ shifted e (get_or l (i + 1) 0)
-    → set (set l i x) (i + 1) y ≡ sets l i (moved_line d e l i)
-unfolding moved_line
-line-stores d e l i x y ex ey =
-    let e1 : i + 1 ≡ suc i = omega arith in
-    let e2 : suc (suc i) ≡ i + 2 = omega arith in
-    let a : List ℕ = set (set l i (shifted d (get_or l i 0))) (suc i) (shifted e (get_or l (i + 1) 0)) in
-    let kept : words l (i + 2) state_size ≡ words a (i + 2) state_size =
-    words_same l a (i + 2) (i + 2) state_size (λ t v. sym (get_or-set_other (set l i (shifted d (get_or l i 0))) (suc i) (i + 2 + t) (shifted e (get_or l (i + 1) 0)) 0 (omega arith) ∙ get_or-set_other l i (i + 2 + t) (shifted d (get_or l i 0)) 0 (omega arith))) in
-    ap (λ (v : ℕ). set (set l i v) (i + 1) y) ex ∙ ap (λ (v : ℕ). set (set l i (shifted d (get_or l i 0))) (i + 1) v) ey ∙ ap (λ (n : ℕ). set (set l i (shifted d (get_or l i 0))) n (shifted e (get_or l (i + 1) 0))) e1
-    ∙ sym (ap (sets a (suc (suc i))) kept ∙ ap (λ (n : ℕ). sets a n (words a (i + 2) state_size)) e2 ∙ sets_words a (i + 2) state_size)
-
--- A move by nothing.
-
-module _ (d e : ℕ) (l : List ℕ) (small : (i : ℕ) → get_or l i 0 < word_values) (ed : d ≡ 0) (ee : e ≡ 0) where
-  unshifted : (by i : ℕ) → by ≡ 0 → shifted by (get_or l i 0) ≡ get_or l i 0
-  unfolding shifted
-  unshifted by i h = omega (arith, small i)
-
-  pub token-kept : (i : ℕ) → moved_token d e l i ≡ words l i token_size
-  unfolding moved_token words
-  token-kept i = rw (add-zero i, unshifted d (i + 1) ed, unshifted e (i + 3) ee)
-
-  two-words : (i : ℕ) → words l i 2 ≡ get_or l i 0 ∷ get_or l (i + 1) 0 ∷ []
-  unfolding words
-  two-words i = rw (add-zero i)
-
-  pub line_kept : (i : ℕ) → moved_line d e l i ≡ words l i line_size
-  unfolding moved_line
-  line_kept i =
-      rw (unshifted d i ed, unshifted e (i + 1) ee) (sym (words_append l i 2 state_size ∙ ap (λ (r : List ℕ). r ++ words l (i + 2) state_size) (two-words i)))
-
--- Records of either kind.
-
-pub some_size : (line : Bool) (size : ℕ) → size ≡ size_of line → 1 ≤ size
-some_size true size h = omega arith
-some_size false size h = omega arith
-
-pub record_width : (line : Bool) (size d e : ℕ) → size ≡ size_of line → Width size (moved_record line d e)
-record_width true size d e h = subst (λ (w : ℕ). Width w (moved_line d e)) (sym h) (line-width d e)
-record_width false size d e h = subst (λ (w : ℕ). Width w (moved_token d e)) (sym h) (token-width d e)
-
-pub record_kept : (line : Bool) (size d e : ℕ) (l : List ℕ) → size ≡ size_of line → ((i : ℕ) → get_or l i 0 < word_values) → d ≡ 0 → e ≡ 0 → (i : ℕ)
-    → moved_record line d e l i ≡ words l i size
-record_kept true size d e l h small ed ee i = line_kept d e l small ed ee i ∙ ap (words l i) (sym h)
-record_kept false size d e l h small ed ee i = token-kept d e l small ed ee i ∙ ap (words l i) (sym h)
+line-width d e = record_width line_size 0 1 d e (omega arith) (omega arith)

@@ -8,10 +8,8 @@ use Rattle.rules.specs.Reading.{Entry, token_sum}
 use Rattle.rules.specs.Records.{line_size, token_size, state_words, line_record, line_records, token_words, token_records}
 use Rattle.rules.proofs.RecordLaws.{state_size, length_state_words}
 use Rattle.rules.proofs.BoundLaws.{AllLe, word_max}
-use Rattle.words.specs.Words.{words}
-use Rattle.moving.specs.Moved.{distance, shifted, moved_token, moved_tokens, moved_line, moved_lines}
-use Rattle.words.proofs.Words.{words_take}
-use Rattle.moving.proofs.Moves.{Width, token-width, line-width}
+use Rattle.moving.specs.Moved.{distance, shifted, words, moved_record, moved_token, moved_tokens, moved_line, moved_lines}
+use Rattle.moving.proofs.Moves.{words_take, Width, token-width, line-width}
 
 -- Lengths.
 
@@ -62,7 +60,7 @@ module _ (p p' l l' : ℕ) where
   -- of one line, x bytes and y lines past the bases
   shift_tokens : (x y i : ℕ) (ts : List Token) (ys : List ℕ) → AllLe word_max (token_words (p' + x) (l' + y) ts)
       → each token_size token (length ts + i) (token_words (p + x) (l + y) ts ++ ys) ≡ token_words (p' + x) (l' + y) ts ++ each token_size token i ys
-  unfolding moved_token token_words
+  unfolding moved_record words token_words
   shift_tokens x y i [] ys h = rw zero-add
   shift_tokens x y i (t ∷ ts) ys h =
       let h1 : shifted (distance p p') (p + x + t.at) ≡ p' + x + t.at =
@@ -106,7 +104,7 @@ module _ (p p' k k' : ℕ) where
 
   shift_records : (x y : ℕ) (es : List Entry) (rest : List ℕ) → AllLe word_max (line_records (p' + x) (k' + y) es)
       → each line_size line (length es) (line_records (p + x) (k + y) es ++ rest) ≡ line_records (p' + x) (k' + y) es
-  unfolding moved_line line_records line_record
+  unfolding moved_record words line_records line_record
   shift_records x y [] rest h = refl
   shift_records x y (e ∷ es) rest h =
       let sw : List ℕ = state_words e.before in

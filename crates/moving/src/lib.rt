@@ -1,131 +1,138 @@
-// Records moved within their buffer.
+// Records moved within their buffer. A record is SIZE words, and its words A and B are shifted: the one by d, the other by e. These numbers are const
+// parameters: a trait would say once that A and B lie in the record, and give each number twice, to the code and to the clauses, for both kinds.
 #![tactic(auto)]
 
-ghost use Rattle.std.specs.Prelude.{◌≡◌, ◌+◌, ◌-◌, ◌*◌, ◌<◌, ◌≤◌, length};
+ghost use Rattle.std.specs.Prelude.{◌≡◌, ◌+◌, ◌*◌, ◌<◌, ◌≤◌, length};
 ghost use Rattle.std.proofs.lemmas.List.Edits.{sets};
-ghost use Rattle.laws.specs.Blocks.{blocks};
 ghost use Rattle.rules.specs.Records.{line_size, token_size};
-ghost use Rattle.words.specs.Words.{Way};
-ghost use Rattle.moving.specs.Moved.{distance, size_of, moved_token, moved_tokens, moved_line, moved_lines, moved_record};
+ghost use Rattle.moving.specs.Moved.{distance, moved_record, moved_records, moved_tokens, moved_lines};
+
+use records::{LINE, TOKEN};
+
+// How many records are brought at a time, so that they are shifted while they are in the cache.
+const BATCH: usize = 128;
 
 // From the base old to the base new, in the arithmetic of words.
 fn distance_of(old: u32, new: u32) -> u32
     ensures { result ≡ distance old new }
 {
-    std::num::wrapping_sub_u32(new, old)
+    new.wrapping_sub(old)
 }
 
-// The token record at word `at`: its position moved by d, its line by e.
-fn shift_token(tokens: &mut [u32], at: usize, d: u32, e: u32)
-    requires { at + token_size ≤ length tokens.old }
-    ensures { tokens.new ≡ sets tokens.old at (moved_token d e tokens.old at) }
+// The record at word `at`, where it stands.
+fn shift_record<const SIZE: usize, const A: usize, const B: usize>(
+    ws: &mut [u32],
+    at: usize,
+    d: u32,
+    e: u32,
+)
+    requires shifted_in_record { (A < SIZE) × (B < SIZE) }
+    requires in_bounds { at + SIZE ≤ length ws.old }
+    ensures { ws.new ≡ sets ws.old at (moved_record SIZE A B d e ws.old at) }
 {
-    let position = std::num::wrapping_add_u32(tokens[at + 1], d);
-    let line = std::num::wrapping_add_u32(tokens[at + 3], e);
-    tokens[at + 1] = position;
-    tokens[at + 3] = line;
-}
-
-// The line record at word `at`: its start moved by d, its first token by e.
-fn shift_line(lines: &mut [u32], at: usize, d: u32, e: u32)
-    requires { at + line_size ≤ length lines.old }
-    ensures { lines.new ≡ sets lines.old at (moved_line d e lines.old at) }
-{
-    let start = std::num::wrapping_add_u32(lines[at], d);
-    let first = std::num::wrapping_add_u32(lines[at + 1], e);
-    lines[at] = start;
-    lines[at + 1] = first;
-}
-
-// The record at word `at`, one of a line or one of a token, moved by d and e.
-fn shift_record(ws: &mut [u32], line: bool, at: usize, d: u32, e: u32)
-    requires { at + size_of line ≤ length ws.old }
-    ensures { ws.new ≡ sets ws.old at (moved_record line d e ws.old at) }
-{
-    if line {
-        shift_line(ws, at, d, e);
-        return;
-    }
-    shift_token(ws, at, d, e);
+    let x = ws[at + A].wrapping_add(d);
+    let y = ws[at + B].wrapping_add(e);
+    ws[at + A] = x;
+    ws[at + B] = y;
 }
 
 // `count` records where they stand.
-fn shift_records(ws: &mut [u32], line: bool, size: usize, from: usize, count: usize, d: u32, e: u32)
-    requires { (size ≡ size_of line) × (size * (from + count) ≤ length ws.old) }
-    ensures { ws.new ≡ sets ws.old (size * from) (blocks (λ j. moved_record line d e ws.old (size * (from + j))) 0 count) }
-{
-    let mut j: usize = 0;
-    while j < count {
-        shift_record(ws, line, size * (from + j), d, e);
-        j += 1;
-    }
-}
-
-// How many of n records are moved at a time.
-fn batch(n: usize) -> usize
-    ensures { (result ≤ n) × (0 < n → 0 < result) }
-{
-    if n < 128 {
-        return n;
-    }
-    128
-}
-
-// `count` records from `from` to `to`, some at a time: their words are moved, and then they are shifted where they stand.
-fn carry_records(
+fn shift_records<const SIZE: usize, const A: usize, const B: usize>(
     ws: &mut [u32],
-    line: bool,
-    size: usize,
-    up: bool,
+    from: usize,
+    count: usize,
+    d: u32,
+    e: u32,
+)
+    requires shifted_in_record { (A < SIZE) × (B < SIZE) }
+    requires in_bounds { SIZE * (from + count) ≤ length ws.old }
+    ensures { ws.new ≡ sets ws.old (SIZE * from) (moved_records SIZE A B d e ws.old from count) }
+{
+    for j in 0..count {
+        shift_record::<SIZE, A, B>(ws, SIZE * (from + j), d, e);
+    }
+}
+
+// `count` records from `from` to `to`, which may overlap: their words are moved, and then they are shifted where they stand.
+fn bring_records<const SIZE: usize, const A: usize, const B: usize>(
+    ws: &mut [u32],
     from: usize,
     to: usize,
     count: usize,
     d: u32,
     e: u32,
 )
-    requires size_value { (size ≡ size_of line) × Way up from to }
-    requires count_in_bounds { (size * (from + count) ≤ length ws.old) × (size * (to + count) ≤ length ws.old) }
-    ensures { ws.new ≡ sets ws.old (size * to) (blocks (λ j. moved_record line d e ws.old (size * (from + j))) 0 count) }
+    requires shifted_in_record { (A < SIZE) × (B < SIZE) }
+    requires in_bounds { (SIZE * (from + count) ≤ length ws.old) × (SIZE * (to + count) ≤ length ws.old) }
+    ensures { ws.new ≡ sets ws.old (SIZE * to) (moved_records SIZE A B d e ws.old from count) }
 {
-    let mut done: usize = 0;
-    while done < count {
-        let n = batch(count - done);
-        let j = words::place_of(up, done, n, count);
-        words::move_words(ws, up, size * (from + j), size * (to + j), size * n);
-        shift_records(ws, line, size, to + j, n, d, e);
-        done += n;
-    }
+    ws.copy_within(SIZE * from..SIZE * (from + count), SIZE * to);
+    shift_records::<SIZE, A, B>(ws, to, count, d, e);
 }
 
-// `count` records from `from` to `to`, which may overlap, moved from the bases p and q to p2 and q2.
-fn move_records(
+// `count` records brought down, the first batch first, so that none is written over before it is moved.
+fn move_down<const SIZE: usize, const A: usize, const B: usize>(
     ws: &mut [u32],
-    line: bool,
-    size: usize,
     from: usize,
     to: usize,
     count: usize,
-    p: u32,
-    p2: u32,
-    q: u32,
-    q2: u32,
+    d: u32,
+    e: u32,
 )
-    requires size_value { size ≡ size_of line }
-    requires count_in_bounds { (size * (from + count) ≤ length ws.old) × (size * (to + count) ≤ length ws.old) }
-    ensures { ws.new ≡ sets ws.old (size * to) (blocks (λ j. moved_record line (distance p p2) (distance q q2) ws.old (size * (from + j))) 0 count) }
+    requires shifted_in_record { (A < SIZE) × (B < SIZE) }
+    requires downward { to ≤ from }
+    requires in_bounds { SIZE * (from + count) ≤ length ws.old }
+    ensures { ws.new ≡ sets ws.old (SIZE * to) (moved_records SIZE A B d e ws.old from count) }
 {
-    let d = distance_of(p, p2);
-    let e = distance_of(q, q2);
-    if from != to {
-        carry_records(ws, line, size, from < to, from, to, count, d, e);
-        return;
+    for i in 0..count.div_ceil(BATCH) {
+        let j = BATCH * i;
+        let n = BATCH.min(count - j);
+        bring_records::<SIZE, A, B>(ws, from + j, to + j, n, d, e);
     }
-    if d == 0 {
-        if e == 0 {
-            return;
-        }
+}
+
+// `count` records brought up, the last batch first.
+fn move_up<const SIZE: usize, const A: usize, const B: usize>(
+    ws: &mut [u32],
+    from: usize,
+    to: usize,
+    count: usize,
+    d: u32,
+    e: u32,
+)
+    requires shifted_in_record { (A < SIZE) × (B < SIZE) }
+    requires upward { from ≤ to }
+    requires in_bounds { SIZE * (to + count) ≤ length ws.old }
+    ensures { ws.new ≡ sets ws.old (SIZE * to) (moved_records SIZE A B d e ws.old from count) }
+{
+    for i in (0..count.div_ceil(BATCH)).rev() {
+        let j = BATCH * i;
+        let n = BATCH.min(count - j);
+        bring_records::<SIZE, A, B>(ws, from + j, to + j, n, d, e);
     }
-    shift_records(ws, line, size, from, count, d, e);
+}
+
+// `count` records from `from` to `to`, which may overlap. The numbers stay apart: each batch has places and a count of its own, so that a struct
+// of them would be made again at each call.
+fn move_records<const SIZE: usize, const A: usize, const B: usize>(
+    ws: &mut [u32],
+    from: usize,
+    to: usize,
+    count: usize,
+    d: u32,
+    e: u32,
+)
+    requires shifted_in_record { (A < SIZE) × (B < SIZE) }
+    requires in_bounds { (SIZE * (from + count) ≤ length ws.old) × (SIZE * (to + count) ≤ length ws.old) }
+    ensures { ws.new ≡ sets ws.old (SIZE * to) (moved_records SIZE A B d e ws.old from count) }
+{
+    if from < to {
+        move_up::<SIZE, A, B>(ws, from, to, count, d, e);
+    } else if to < from {
+        move_down::<SIZE, A, B>(ws, from, to, count, d, e);
+    } else if d != 0 || e != 0 {
+        shift_records::<SIZE, A, B>(ws, from, count, d, e);
+    }
 }
 
 // `count` token records from `from` to `to`, which may overlap: positions from p to p2, lines from l to l2.
@@ -142,7 +149,14 @@ pub fn move_tokens(
     requires { (token_size * (from + count) ≤ length tokens.old) × (token_size * (to + count) ≤ length tokens.old) }
     ensures { tokens.new ≡ sets tokens.old (token_size * to) (moved_tokens p p2 l l2 tokens.old from count) }
 {
-    move_records(tokens, false, records::TOKEN, from, to, count, p, p2, l, l2);
+    move_records::<TOKEN, 1, 3>(
+        tokens,
+        from,
+        to,
+        count,
+        distance_of(p, p2),
+        distance_of(l, l2),
+    );
 }
 
 // `count` line records from `from` to `to`, which may overlap: starts from p to p2, first tokens from k to k2.
@@ -159,5 +173,12 @@ pub fn move_lines(
     requires { (line_size * (from + count) ≤ length lines.old) × (line_size * (to + count) ≤ length lines.old) }
     ensures { lines.new ≡ sets lines.old (line_size * to) (moved_lines p p2 k k2 lines.old from count) }
 {
-    move_records(lines, true, records::LINE, from, to, count, p, p2, k, k2);
+    move_records::<LINE, 0, 1>(
+        lines,
+        from,
+        to,
+        count,
+        distance_of(p, p2),
+        distance_of(k, k2),
+    );
 }

@@ -1,35 +1,17 @@
--- `moving::move_records` meets its contract, by the way that the records go.
-use Rattle.std.proofs.Common.{◌+◌, ◌*◌, sym, refl, ◌∙◌, arith}
-use Rattle.moving.specs.Moved.{moved_record}
-use Rattle.words.proofs.Words.{way_of}
-use Rattle.moving.proofs.Moves.{by_bases, blocks_still, record_kept}
+-- `moving::move_records` meets its contract: where nothing moves, the records are the words where they stand.
+use Rattle.std.proofs.Common.{◌≡◌, ◌+◌, ◌*◌, sym, ap, ◌∙◌, arith}
+use lib.Seq.{sets}
+use Rattle.moving.specs.Moved.{moved_record, moved_records}
+use Rattle.moving.proofs.Moves.{record_kept, blocks_still}
 use Rattle.moving.proofs.move_records.Goals as goal
 
-pub carry_records-requires : goal.carry_records-requires
-carry_records-requires c =
-    record { size_value = (c.requires.size_value, way_of c.args.from c.args.to); count_in_bounds = c.requires.count_in_bounds }
-
-pub returns-then-from-to : goal.returns-then-from-to
-returns-then-from-to c =
-    let a = c.args in
-    c.carry_records.ensures
-    ∙ by_bases a.size (moved_record a.line) a.p a.p2 a.q a.q2 a.ws.now a.from a.count c.distance_of-d.result c.distance_of-e.result a.to a.to c.distance_of-d.ensures c.distance_of-e.ensures refl
-
-pub returns-then-e-eq0 : goal.returns-then-e-eq0
-returns-then-e-eq0 c =
+pub returns-else-e-ne0 : goal.returns-else-e-ne0
+returns-else-e-ne0 g c =
     let a = c.args in
     let l = a.ws.now in
-    let d = c.distance_of-d.result in
-    let e = c.distance_of-e.result in
-    sym (blocks_still a.size l (λ j. moved_record a.line d e l (a.size * (a.from + j))) a.from
-    (λ j. record_kept a.line a.size d e l c.requires.size_value (λ i. omega (arith, c.type_inv.ws i)) c.if-d-eq0.true c.if-e-eq0.true (a.size * (a.from + j))) 0 a.count)
-    ∙ by_bases a.size (moved_record a.line) a.p a.p2 a.q a.q2 l a.from a.count d e (a.from + 0) a.to c.distance_of-d.ensures c.distance_of-e.ensures (omega (arith, c.if-from-to.false))
-
-pub shift_records-requires : goal.shift_records-requires
-shift_records-requires c = (c.requires.size_value, omega (arith, c.requires.count_in_bounds.0))
-
-pub returns : goal.returns
-returns c =
-    let a = c.args in
-    c.shift_records.ensures
-    ∙ by_bases a.size (moved_record a.line) a.p a.p2 a.q a.q2 a.ws.now a.from a.count c.distance_of-d.result c.distance_of-e.result a.from a.to c.distance_of-d.ensures c.distance_of-e.ensures c.if-from-to.false
+    let w = g.row.SIZE in
+    let inside = c.requires.shifted_in_record in
+    let kept = record_kept w g.row.A g.row.B a.d a.e inside.0 inside.1 l (λ i. omega (arith, c.type_inv.ws i)) c.if-d-ne0.false c.if-e-ne0.false in
+    let here : a.from + 0 ≡ a.to = omega (arith, c.if-from-to.false, c.if-to-from.false) in
+    sym (blocks_still w l (λ j. moved_record w g.row.A g.row.B a.d a.e l (w * (a.from + j))) a.from (λ j. kept (w * (a.from + j))) 0 a.count)
+    ∙ ap (λ k. sets l (w * k) (moved_records w g.row.A g.row.B a.d a.e l a.from a.count)) here
