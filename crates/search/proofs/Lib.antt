@@ -1,1 +1,1 @@
-pub mod TrailingCrs
+pub mod Library

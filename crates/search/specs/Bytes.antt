@@ -1,10 +1,7 @@
--- Which bytes a search in a line takes.
+-- Which bytes a search in a line passes.
 -- Assumes nothing.
 use Rattle.std.specs.Prelude.{ℕ, Bool, not, eqb}
 
--- this byte, and another one
-abbrev pub is_byte : (byte b : ℕ) → Bool
-is_byte byte b = eqb b byte
-
+-- another byte than this one
 abbrev pub is_other : (byte b : ℕ) → Bool
 is_other byte b = not (eqb b byte)

@@ -106,14 +106,14 @@ size-by (suc (suc (suc (suc zero)))) r s =
 size-by (suc (suc (suc (suc (suc n))))) r s = refl
 
 -- no scalar: too many leading ones, a bad second byte, a bad third byte
-no_first : (n : ℕ) (p q r : Bool) → 4 < n → size_of n p q r ≡ 0
+no_ones : (n : ℕ) (p q r : Bool) → (n ≡ 0 → ⊥) → (n ≡ 2 → ⊥) → (n ≡ 3 → ⊥) → (n ≡ 4 → ⊥) → size_of n p q r ≡ 0
 unfolding size_of
-no_first zero p q r h = absurd (omega arith)
-no_first (suc zero) p q r h = absurd (omega arith)
-no_first (suc (suc zero)) p q r h = absurd (omega arith)
-no_first (suc (suc (suc zero))) p q r h = absurd (omega arith)
-no_first (suc (suc (suc (suc zero)))) p q r h = absurd (omega arith)
-no_first (suc (suc (suc (suc (suc n))))) p q r h = refl
+no_ones zero p q r a b c d = absurd (a refl)
+no_ones (suc zero) p q r a b c d = refl
+no_ones (suc (suc zero)) p q r a b c d = absurd (b refl)
+no_ones (suc (suc (suc zero))) p q r a b c d = absurd (c refl)
+no_ones (suc (suc (suc (suc zero)))) p q r a b c d = absurd (d refl)
+no_ones (suc (suc (suc (suc (suc n))))) p q r a b c d = refl
 
 no_second : (n : ℕ) (q r : Bool) → 0 < n → size_of n false q r ≡ 0
 unfolding size_of
@@ -166,12 +166,8 @@ module _ {t : List ℕ} {i n : ℕ} {p : Bool} (s : Sized t i n p) where
   unfolding size_of
   size-ascii h = sym (s.size ∙ rw h)
 
-  pub size-one : n ≡ 1 → 0 ≡ scalar_size (drop i t)
-  unfolding size_of
-  size-one h = sym (s.size ∙ rw h)
-
-  pub size_many : 4 < n → 0 ≡ scalar_size (drop i t)
-  size_many h = sym (s.size ∙ no_first n _ _ _ h)
+  pub bad_first : (n ≡ 0 → ⊥) → (n ≡ 2 → ⊥) → (n ≡ 3 → ⊥) → (n ≡ 4 → ⊥) → 0 ≡ scalar_size (drop i t)
+  bad_first a b c d = sym (s.size ∙ no_ones n _ _ _ a b c d)
 
   pub bad_second : 0 < n → not p ≡ true → 0 ≡ scalar_size (drop i t)
   bad_second h e = sym (s.size ∙ rw (not-true p e) (no_second n _ _ h))

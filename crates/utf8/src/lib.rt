@@ -2,7 +2,7 @@
 #![tactic(auto)]
 
 ghost use Rattle.std.specs.Prelude.{[], ◌∷◌, ◌≡◌, ◌+◌, ◌*◌, ◌%◌, ◌≤◌, ◌<◌, length, drop};
-ghost use Rattle.rules.specs.Utf8.{◌to◌, in_ranges, leading_ones, scalar_size, scalar_value, well_formed_prefix};
+ghost use Rattle.rules.specs.Utf8.{◌to◌, continuation, in_ranges, leading_ones, scalar_size, scalar_value, well_formed_prefix};
 ghost use Rattle.utf8.specs.Second.{lowest, highest};
 ghost use Rattle.utf8.specs.Value.{low_first};
 ghost use Rattle.utf8.specs.Passed.{is_ascii, Passed};
@@ -17,27 +17,19 @@ fn leading_ones(b: u8) -> u32
     u8::leading_zeros(!b)
 }
 
-// The lowest second byte after `first`; above every second byte where `first` begins no scalar of two bytes or more.
-#[tactic(auto, using(std::proofs::lemmas::Bool::Decides::nat_tests), unfolding(crate::specs::Second::lowest))]
-fn lowest_second(first: u8) -> u8
-    ensures { result ≡ lowest first }
+// The lowest and the highest second byte after `first`; the lowest is above every second byte where `first` begins no scalar of two bytes or
+// more.
+#[tactic(auto, using(std::proofs::lemmas::Bool::Decides::nat_tests), unfolding(crate::specs::Second::lowest, crate::specs::Second::highest))]
+fn second_range(first: u8) -> (u8, u8)
+    ensures { (result.0 ≡ lowest first) × (result.1 ≡ highest first) }
 {
     match first {
-        0xE0 => 0xA0,
-        0xF0 => 0x90,
-        0xC2..=0xF4 => 0x80,
-        _ => 0xFF,
-    }
-}
-
-// The highest second byte after `first`.
-fn highest_second(first: u8) -> u8
-    ensures { result ≡ highest first }
-{
-    match first {
-        0xED => 0x9F,
-        0xF4 => 0x8F,
-        _ => 0xBF,
+        0xE0 => (0xA0, 0xBF),
+        0xED => (0x80, 0x9F),
+        0xF0 => (0x90, 0xBF),
+        0xF4 => (0x80, 0x8F),
+        0xC2..=0xF3 => (0x80, 0xBF),
+        _ => (0xFF, 0xBF),
     }
 }
 
@@ -45,14 +37,22 @@ fn highest_second(first: u8) -> u8
 fn in_range(text: &[u8], at: usize, lo: u8, hi: u8) -> bool
     ensures { result ≡ in_ranges (lo to hi ∷ []) (drop at text.now) }
 {
-    if text.len() <= at {
-        return false;
-    }
-    let b = text[at];
-    if b < lo {
-        return false;
-    }
-    b <= hi
+    at < text.len() && lo <= text[at] && text[at] <= hi
+}
+
+// Whether the second byte of a scalar that begins with `first` stands at `at`.
+fn second_at(text: &[u8], at: usize, first: u8) -> bool
+    ensures { result ≡ in_ranges (lowest first to highest first ∷ []) (drop at text.now) }
+{
+    let (lo, hi) = second_range(first);
+    in_range(text, at, lo, hi)
+}
+
+// Whether a later byte of a scalar stands at `at`.
+fn later_at(text: &[u8], at: usize) -> bool
+    ensures { result ≡ in_ranges (continuation ∷ []) (drop at text.now) }
+{
+    in_range(text, at, 0x80, 0xBF)
 }
 
 // The length of the scalar that begins at byte `at`; 0 where there is none.
@@ -63,48 +63,27 @@ pub fn scalar_size(text: &[u8], at: usize) -> usize
         return 0;
     }
     let first = text[at];
-    let ones = leading_ones(first);
-    if ones == 0 {
-        return 1;
+    match leading_ones(first) {
+        0 => 1,
+        2 if second_at(text, at + 1, first) => 2,
+        3 if second_at(text, at + 1, first) && later_at(text, at + 2) => 3,
+        4 if second_at(text, at + 1, first) && later_at(text, at + 2) && later_at(text, at + 3) =>
+            4,
+        _ => 0,
     }
-    if ones < 2 {
-        return 0;
-    }
-    if 4 < ones {
-        return 0;
-    }
-    if !in_range(text, at + 1, lowest_second(first), highest_second(first)) {
-        return 0;
-    }
-    if ones == 2 {
-        return 2;
-    }
-    if !in_range(text, at + 2, 0x80, 0xBF) {
-        return 0;
-    }
-    if ones == 3 {
-        return 3;
-    }
-    if !in_range(text, at + 3, 0x80, 0xBF) {
-        return 0;
-    }
-    4
 }
 
 // The bits of a scalar's first byte that belong to its value, by the scalar's length.
+#[tactic(auto, using(std::proofs::lemmas::Bool::Decides::nat_tests), unfolding(crate::specs::Value::low_first))]
 fn first_bits(size: usize, first: u8) -> u8
     ensures { result ≡ low_first size first }
 {
-    if size < 2 {
-        return first;
+    match size {
+        0 | 1 => first,
+        2 => first % 32,
+        3 => first % 16,
+        _ => first % 8,
     }
-    if size < 3 {
-        return first % 32;
-    }
-    if size < 4 {
-        return first % 16;
-    }
-    first % 8
 }
 
 // A value with six bits of a later byte after it.
@@ -146,12 +125,12 @@ fn is_ascii_block(text: &[u8], at: usize) -> bool
 {
     let mut bits: u8 = 0;
     for j in 0..BLOCK {
-        bits = bits | text[at + j];
+        bits |= text[at + j];
     }
     bits < 128
 }
 
-// Passes scalars from `from` on, up to `end` or past it, or to where no scalar begins.
+// Passes scalars from `from` on, up to `end` or past it, or to where no scalar begins. A step is as long as its scalar, so no range gives it.
 fn pass_scalars(text: &[u8], from: usize, end: usize) -> usize
     requires { from ≤ length text.now }
     ensures { Passed text.now from end result }
@@ -178,7 +157,8 @@ fn pass_block(text: &[u8], from: usize) -> usize
     pass_scalars(text, from, from + BLOCK)
 }
 
-// The length of the longest well-formed prefix: a block a turn, and what is left of the last one scalar by scalar.
+// The length of the longest well-formed prefix: a block a turn, and what is left of the last one scalar by scalar. It isn't left to the library's
+// `from_utf8`: by the project's rules wrong tests of a block (`bits < 129`) stay refused here.
 pub fn well_formed_prefix(text: &[u8]) -> usize
     ensures { result ≡ well_formed_prefix text.now }
 {
