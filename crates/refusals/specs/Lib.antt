@@ -1,2 +1,3 @@
 pub mod Limits
+pub mod Replies
 pub mod Unreads

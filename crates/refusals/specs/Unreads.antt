@@ -1,15 +1,36 @@
--- Why a text by itself is refused: the type of the code and that of the rules.
+-- Why a call is refused: the types of the code and those of the rules.
 -- Assumes nothing.
-use Rattle.std.specs.Prelude.{ℕ, List, if◌then◌else◌}
+use Rattle.std.specs.Prelude.{ℕ, List, Result, Ok, Err, if◌then◌else◌}
 use Rattle.rules.specs.Failure as RulesFailure
 use Rattle.rules.specs.Limits.{Limits}
 use Rattle.rules.specs.Replies as RulesReplies
-use Rattle.rules.specs.Replies.{too_long, malformed, lexical, at_line, is_too_long, too_long_by, is_malformed, malformed_by}
+use Rattle.rules.specs.Replies.{
+  too_long,
+  malformed,
+  lexical,
+  at_line,
+  reading,
+  short,
+  outside,
+  unfit,
+  text_buffer,
+  spare_buffer,
+  lines_buffer,
+  tokens_buffer,
+  out_buffer,
+  names_buffer,
+  is_too_long,
+  too_long_by,
+  is_malformed,
+  malformed_by,
+}
 use Rattle.refusals.specs.declared.FailureRecord.{FailureRecord}
 use Rattle.refusals.specs.declared.Unread.{Unread}
 use Rattle.refusals.specs.declared.Unread.TheVariants.{TooLong, Malformed, Fails, AtLine}
-use Rattle.refusals.specs.declared.TextTest.{TextTest}
-use Rattle.refusals.specs.declared.TextTest.TheVariants.{Passes, Refused}
+use Rattle.refusals.specs.declared.Buffer.{Buffer}
+use Rattle.refusals.specs.declared.Buffer.TheVariants.{Text, Spare, Lines, Tokens, Out, Names}
+use Rattle.refusals.specs.declared.Refusal.{Refusal}
+use Rattle.refusals.specs.declared.Refusal.TheVariants.{Reading, Short, Outside, Unfit}
 
 -- the record of a failure
 abbrev pub record_in : RulesFailure.FailureRecord → FailureRecord
@@ -52,9 +73,25 @@ unread_of (Malformed n) = malformed n
 unread_of (Fails f) = lexical (record_of f)
 unread_of (AtLine number l) = at_line number l
 
+-- a buffer's number
+abbrev pub buffer_number : Buffer → ℕ
+buffer_number Text = text_buffer
+buffer_number Spare = spare_buffer
+buffer_number Lines = lines_buffer
+buffer_number Tokens = tokens_buffer
+buffer_number Out = out_buffer
+buffer_number Names = names_buffer
+
+-- a refusal of the code in the rules
+abbrev pub refusal_of : Refusal → RulesReplies.Refusal
+refusal_of (Reading u) = reading (unread_of u)
+refusal_of (Short b n) = short (buffer_number b) n
+refusal_of Outside = outside
+refusal_of Unfit = unfit
+
 -- 1, 2
-abbrev pub test_of : Limits → List ℕ → TextTest
+abbrev pub test_of : Limits → List ℕ → Result (Unit {0}) Unread
 test_of lim t =
-    if is_too_long lim t then Refused (unread_in (too_long_by lim t))
-    else if is_malformed t then Refused (unread_in (malformed_by t))
-    else Passes
+    if is_too_long lim t then Err (unread_in (too_long_by lim t))
+    else if is_malformed t then Err (unread_in (malformed_by t))
+    else Ok tt
