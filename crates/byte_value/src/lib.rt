@@ -1,153 +1,91 @@
 // The value of a byte literal.
 #![tactic(auto)]
 
-ghost use Rattle.std.specs.Prelude.{◌≡◌};
-ghost use Rattle.rules.specs.ByteValue.{ascii_value, escape_value, hex_pair, inner_value, closed_value, literal_value, value_reply};
-ghost use Rattle.byte_value.specs.Answers.{value_numbers, option_reply, digit_or};
+ghost use Rattle.std.specs.Prelude.{◌≡◌, ◌<◌, IfSome};
+ghost use Rattle.refusals.specs.Replies.{option_of};
+ghost use Rattle.rules.specs.ByteValue.{ascii_value, escape_value, hex_pair, inner_value, literal_value, value_reply};
+ghost use Rattle.byte_value.specs.Answers.{value_numbers, digit_value};
 
-// The value of a byte literal: a value, or none; or why the text is refused, 1 or 2.
-#[derive(Clone, Copy)]
-pub enum Value {
-    Is(u32),
-    Nothing,
-    Refused(refusals::Unread),
-}
-
-// The value of a hex digit; 16 where the byte is none.
-fn hex_digit(b: u8) -> u32
-    ensures { result ≡ digit_or b }
+// The value of a hex digit.
+#[tactic(auto, using(std::proofs::lemmas::Bool::Decides::nat_tests), unfolding(crate::specs::Answers::digit_value, rules::specs::Tables::is_hex_digit, rules::specs::Tables::is_digit, rules::specs::ByteValue::hex_value))]
+fn hex_digit(b: u8) -> Option<u32>
+    ensures value { option_of result ≡ digit_value b }
+    ensures below { IfSome result (λ v. v < 16) }
 {
     let d = b as u32;
-    if d < 48 {
-        return 16;
+    match b {
+        b'0'..=b'9' => Some(d - 48),
+        b'A'..=b'F' => Some(d - 55),
+        b'a'..=b'f' => Some(d - 87),
+        _ => None,
     }
-    if d <= 57 {
-        return d - 48;
-    }
-    if d < 65 {
-        return 16;
-    }
-    if d <= 70 {
-        return d - 55;
-    }
-    if d < 97 {
-        return 16;
-    }
-    if d <= 102 {
-        return d - 87;
-    }
-    16
 }
 
 // The value of `\x` with these two bytes: two hex digits up to 7F, or `+` and a hex digit.
-#[tactic(auto, using(crate::proofs::Digits::hex_pairs), unfolding(rules::specs::ByteValue::value_words))]
-fn hex_pair(high: u8, low: u8) -> Value
-    ensures { value_numbers result ≡ option_reply (hex_pair high low) }
+#[tactic(auto, using(std::proofs::lemmas::Bool::Decides::nat_tests), unfolding(rules::specs::ByteValue::hex_pair, rules::specs::ByteValue::ascii_value, crate::specs::Answers::digit_value))]
+fn hex_pair(high: u8, low: u8) -> Option<u32>
+    ensures { option_of result ≡ hex_pair high low }
 {
-    let l = hex_digit(low);
-    if l == 16 {
-        return Value::Nothing;
+    let l = hex_digit(low)?;
+    match hex_digit(high) {
+        Some(h) if h < 8 => Some(16 * h + l),
+        None if high == b'+' => Some(l),
+        _ => None,
     }
-    let h = hex_digit(high);
-    if h < 8 {
-        return Value::Is(16 * h + l);
-    }
-    if h < 16 {
-        return Value::Nothing;
-    }
-    if high == 43 {
-        return Value::Is(l);
-    }
-    Value::Nothing
 }
 
 // The value of a backslash with this byte.
-fn escape_value(b: u8) -> Value
-    ensures { value_numbers result ≡ option_reply (escape_value b) }
+#[tactic(auto, using(std::proofs::lemmas::Bool::Decides::nat_tests), unfolding(rules::specs::ByteValue::escape_value, rules::specs::Lists::elem, rules::specs::Lists::any))]
+fn escape_value(b: u8) -> Option<u32>
+    ensures { option_of result ≡ escape_value b }
 {
     match b {
-        48 => Value::Is(0),
-        116 => Value::Is(9),
-        110 => Value::Is(10),
-        114 => Value::Is(13),
-        39 => Value::Is(39),
-        92 => Value::Is(92),
-        34 => Value::Is(34),
-        _ => Value::Nothing,
+        b'0' => Some(0),
+        b't' => Some(9),
+        b'n' => Some(10),
+        b'r' => Some(13),
+        b'\'' | b'\\' | b'"' => Some(b as u32),
+        _ => None,
     }
 }
 
 // The value of a byte that stands for itself.
-fn ascii_value(b: u8) -> Value
-    ensures { value_numbers result ≡ option_reply (ascii_value b) }
+#[tactic(auto, using(std::proofs::lemmas::Bool::Decides::nat_tests), unfolding(rules::specs::ByteValue::ascii_value))]
+fn ascii_value(b: u8) -> Option<u32>
+    ensures { option_of result ≡ ascii_value b }
 {
-    if b < 128 {
-        return Value::Is(b as u32);
-    }
-    Value::Nothing
+    if b < 128 { Some(b as u32) } else { None }
 }
 
 // The value of what stands between the quotes.
-fn inner_value(inner: &[u8]) -> Value
-    ensures { value_numbers result ≡ option_reply (inner_value inner.now) }
+#[tactic(auto, using(std::proofs::lemmas::Bool::Decides::nat_tests), unfolding(rules::specs::ByteValue::inner_value, rules::specs::Lists::begins))]
+fn inner_value(inner: &[u8]) -> Option<u32>
+    ensures { option_of result ≡ inner_value inner.now }
 {
-    if inner.len() == 1 {
-        return ascii_value(inner[0]);
+    match inner {
+        [c] => ascii_value(*c),
+        [b'\\', e] => escape_value(*e),
+        [b'\\', b'x', high, low] => hex_pair(*high, *low),
+        _ => None,
     }
-    if inner.len() == 2 {
-        if inner[0] == 92 {
-            return escape_value(inner[1]);
-        }
-        return Value::Nothing;
-    }
-    if inner.len() == 4 {
-        if inner[0] != 92 {
-            return Value::Nothing;
-        }
-        if inner[1] != 120 {
-            return Value::Nothing;
-        }
-        return hex_pair(inner[2], inner[3]);
-    }
-    Value::Nothing
-}
-
-// The value of what follows the opening quote: the closing quote must be there.
-fn closed_value(rest: &[u8]) -> Value
-    ensures { value_numbers result ≡ option_reply (closed_value rest.now) }
-{
-    if rest.len() == 0 {
-        return Value::Nothing;
-    }
-    let end = rest.len() - 1;
-    if rest[end] != 39 {
-        return Value::Nothing;
-    }
-    inner_value(&rest[0..end])
 }
 
 // The value of a text that is a byte literal.
-fn literal_value(text: &[u8]) -> Value
-    ensures { value_numbers result ≡ option_reply (literal_value text.now) }
+#[tactic(auto, using(std::proofs::lemmas::Bool::Decides::nat_tests, crate::proofs::Literals::literal_short, crate::proofs::Literals::literal_long))]
+fn literal_value(text: &[u8]) -> Option<u32>
+    ensures { option_of result ≡ literal_value text.now }
 {
-    if text.len() < 2 {
-        return Value::Nothing;
+    match text {
+        [b'b', b'\'', inner @ .., b'\''] => inner_value(inner),
+        _ => None,
     }
-    if text[0] != 98 {
-        return Value::Nothing;
-    }
-    if text[1] != 39 {
-        return Value::Nothing;
-    }
-    closed_value(&text[2..])
 }
 
-// The value of a text that is a byte literal, where it is neither too long nor malformed.
-pub fn ascii_byte_literal_value(text: &[u8]) -> Value
+// The value of a text that is a byte literal, or none, where it is neither too long nor malformed.
+#[tactic(auto, using(refusals::proofs::Tests::refused_reply, refusals::proofs::Tests::passed_alone), unfolding(rules::specs::ByteValue::value_reply))]
+pub fn ascii_byte_literal_value(text: &[u8]) -> Result<Option<u32>, refusals::Unread>
     ensures { value_numbers result ≡ value_reply text.now }
 {
-    match refusals::test_text(refusals::barge_limits(), text) {
-        refusals::TextTest::Passes => literal_value(text),
-        refusals::TextTest::Refused(u) => Value::Refused(u),
-    }
+    refusals::test_text(refusals::barge_limits(), text)?;
+    Ok(literal_value(text))
 }

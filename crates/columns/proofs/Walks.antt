@@ -12,7 +12,7 @@ use Rattle.std.specs.Prelude.{if◌then◌else◌}
 use Rattle.rules.specs.Lists.{any, elem}
 use Rattle.rules.specs.Utf8.{scalar_size, WellFormed, nil, scalars_from, scalars_of}
 use Rattle.rules.specs.Reading.{is_lf}
-use Rattle.rules.specs.Replies.{numbered, refused_if, first_of, unless}
+use Rattle.rules.specs.Replies.{numbered, outside, refused_if, first_of, unless}
 use Rattle.rules.specs.Column.{last_line, starts_from, is_outside, panel_column}
 use Rattle.rules.proofs.Utf8Laws.{scalars_cons, scalars_none}
 use Rattle.utf8.proofs.SizeLaws.{size_in}
@@ -138,15 +138,15 @@ module _ {t : List ℕ} {at i count : ℕ} (w : Walked t at i count) where
   in_text m e = size_in t i m w.inside e
 
   -- the reply where no scalar starts at `at`: none begins at `i` before it, or the walk has passed it
-  is-outside : elem at (starts_from i (scalars_of (drop i t))) ≡ false → (6 ∷ []) ≡ place_reply t at
-  unfolding is_outside refused_if first_of unless numbered
+  is-outside : elem at (starts_from i (scalars_of (drop i t))) ≡ false → numbered outside ≡ place_reply t at
+  unfolding is_outside refused_if first_of unless
   is-outside e = let f : elem at (starts_from 0 (scalars_of t)) ≡ false = sym w.starts ∙ e in rw f
 
-  pub walk_stops : i < at → scalar_size (drop i t) ≡ 0 → (6 ∷ []) ≡ place_reply t at
+  pub walk_stops : i < at → scalar_size (drop i t) ≡ 0 → numbered outside ≡ place_reply t at
   unfolding elem any starts_from
   walk_stops h e = is-outside (ap (λ (cs : List (List ℕ)). elem at (starts_from i cs)) (scalars_none (drop i t) e) ∙ rw (ne_eqb at i (λ q. omega arith)))
 
-  pub walk_passes : at < i → (6 ∷ []) ≡ place_reply t at
+  pub walk_passes : at < i → numbered outside ≡ place_reply t at
   walk_passes h = is-outside (starts-later i (scalars_of (drop i t)) at h)
 
   -- the reply where the walk has come to `at`

@@ -1,17 +1,14 @@
 -- The column in words, as the reply of the rules has it.
 -- Assumes nothing.
-use Rattle.std.specs.Prelude.{ℕ, suc, List, [], ◌∷◌, if◌then◌else◌}
+use Rattle.std.specs.Prelude.{ℕ, suc, List, [], ◌∷◌, Result, if◌then◌else◌}
 use Rattle.rules.specs.Reading.{is_lf}
-use Rattle.rules.specs.Replies.{Reply, outside, numbered_unread, numbered, accepted, refused_if, first_of, unless}
+use Rattle.rules.specs.Replies.{Reply, outside, numbered, accepted, refused_if, first_of, unless}
 use Rattle.rules.specs.Column.{is_outside, panel_column}
-use Rattle.refusals.specs.Unreads.{unread_of}
-use Rattle.columns.specs.declared.Column as column
-use Rattle.columns.specs.declared.Column.TheVariants as a-column
+use Rattle.refusals.specs.Replies.{reply_of}
+use Rattle.refusals.specs.declared.Refusal.{Refusal}
 
-abbrev pub column_numbers : column.Column → List ℕ
-column_numbers (a-column.At n) = 0 ∷ n ∷ []
-column_numbers (a-column.Refused u) = numbered_unread (unread_of u)
-column_numbers a-column.Outside = 6 ∷ []
+abbrev pub column_numbers : Result ℕ Refusal → Reply
+column_numbers = reply_of (λ n. n ∷ [])
 
 -- the reply of a text that passes the tests 1 and 2
 abbrev pub place_reply : List ℕ → (at : ℕ) → Reply

@@ -5,27 +5,18 @@ ghost use Rattle.std.specs.Prelude.{◌≡◌, ◌≤◌, length};
 ghost use Rattle.rules.specs.Column.{column_reply};
 ghost use Rattle.columns.specs.Answers.{column_numbers, place_reply, count_after};
 
-// The panel column of an offset; or why the text is refused, 1 or 2; or 6.
-#[derive(Clone, Copy)]
-pub enum Column {
-    At(usize),
-    Refused(refusals::Unread),
-    Outside,
-}
-
 // How many scalars a line has after one that begins with this byte: none after an LF, which ends the line.
+#[tactic(auto, using(std::proofs::lemmas::Bool::Decides::nat_tests))]
 fn count_after(b: u8, count: usize) -> usize
     requires { count ≤ 1_048_576 }
     ensures { result ≡ count_after b count }
 {
-    if b == 10 {
-        return 0;
-    }
-    count + 1
+    if b == b'\n' { 0 } else { count + 1 }
 }
 
-// The column of `at`: scalar by scalar from the front, with the scalars of the line that `i` stands in counted.
-fn column_at(text: &[u8], at: usize) -> Column
+// The column of `at`: scalar by scalar from the front, with the scalars of the line that `i` stands in counted. A scalar's own size is the step,
+// so no range gives these offsets.
+fn column_at(text: &[u8], at: usize) -> Result<usize, refusals::Refusal>
     requires { length text.now ≤ 1_048_576 }
     ensures { column_numbers result ≡ place_reply text.now at }
 {
@@ -34,23 +25,23 @@ fn column_at(text: &[u8], at: usize) -> Column
     while i < at {
         let size = utf8::scalar_size(text, i);
         if size == 0 {
-            return Column::Outside;
+            return Err(refusals::Refusal::Outside);
         }
         count = count_after(text[i], count);
         i += size;
     }
     if at < i {
-        return Column::Outside;
+        return Err(refusals::Refusal::Outside);
     }
-    Column::At(count + 1)
+    Ok(count + 1)
 }
 
-// The column of `at` in its line, where the text is neither too long nor malformed and a scalar begins there, or the text ends.
-pub fn panel_column(text: &[u8], at: usize) -> Column
+// The column of `at` in its line, where the text is neither too long nor malformed and a scalar begins there, or the text ends; or the text's
+// refusal, 1 or 2; or 6.
+#[tactic(auto, using(refusals::proofs::Tests::refused_call, refusals::proofs::Tests::passed_reply, refusals::proofs::Tests::passed_short), unfolding(rules::specs::Column::column_reply, rules::specs::Column::column_tests))]
+pub fn panel_column(text: &[u8], at: usize) -> Result<usize, refusals::Refusal>
     ensures { column_numbers result ≡ column_reply text.now at }
 {
-    match refusals::test_text(refusals::barge_limits(), text) {
-        refusals::TextTest::Passes => column_at(text, at),
-        refusals::TextTest::Refused(u) => Column::Refused(u),
-    }
+    refusals::test_text(refusals::barge_limits(), text)?;
+    column_at(text, at)
 }

@@ -1,14 +1,19 @@
 -- A number's parts in words, as the reply of the rules has them.
 -- Assumes nothing.
-use Rattle.std.specs.Prelude.{ℕ, List, [], ◌∷◌}
-use Rattle.rules.specs.Replies.{numbered_unread}
-use Rattle.rules.specs.Numbers.{suffix_number}
-use Rattle.refusals.specs.Unreads.{unread_of}
-use Rattle.numbers.specs.Numbers.{rule_suffix}
-use Rattle.number_parts.specs.declared.Parts as parts
-use Rattle.number_parts.specs.declared.Parts.TheVariants as a-number
+use Rattle.std.specs.Prelude.{Option, Some, None, Result}
+use Rattle.std.proofs.Math.Option as math
+use Rattle.rules.specs.Replies.{Reply}
+use Rattle.rules.specs.Cut as RulesCut
+use Rattle.rules.specs.Numbers.{parts_words}
+use Rattle.refusals.specs.Replies.{text_reply_of}
+use Rattle.refusals.specs.declared.Unread.{Unread}
+use Rattle.numbers.specs.Numbers.{number_of}
+use Rattle.numbers.specs.declared.Number.{Number}
 
-abbrev pub parts_numbers : parts.Parts → List ℕ
-parts_numbers (a-number.Is n) = 0 ∷ 1 ∷ n.end ∷ n.base ∷ n.digits ∷ suffix_number (rule_suffix n.suffix) ∷ []
-parts_numbers a-number.Nothing = 0 ∷ 0 ∷ []
-parts_numbers (a-number.Refused u) = numbered_unread (unread_of u)
+-- a number or none, of the code in the rules
+abbrev pub number_in : Option Number → math.Option RulesCut.Number
+number_in (Some n) = math.some (number_of n)
+number_in None = math.none
+
+abbrev pub parts_numbers : Result (Option Number) Unread → Reply
+parts_numbers = text_reply_of (λ n. parts_words (number_in n))

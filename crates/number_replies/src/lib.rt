@@ -7,9 +7,10 @@ ghost use Rattle.rules.specs.Numbers.{suffix_number};
 ghost use Rattle.numbers.specs.Numbers.{rule_suffix};
 ghost use Rattle.number_parts.specs.Answers.{parts_numbers};
 
-use replies::{put_six, put_two, put_unread};
+use replies::{put, put_unread};
 
 // The number of a suffix.
+#[tactic(auto, unfolding(rules::specs::Numbers::suffix_number))]
 fn suffix_number(suffix: numbers::Suffix) -> u64
     ensures { result ≡ suffix_number (rule_suffix suffix) }
 {
@@ -23,24 +24,20 @@ fn suffix_number(suffix: numbers::Suffix) -> u64
 }
 
 // The answer of `number_parts`.
-pub fn put_parts(reply: &mut [u64; 16], r: number_parts::Parts) -> u64
+#[tactic(auto, unfolding(rules::specs::Numbers::parts_words))]
+pub fn put_parts(reply: &mut [u64; 16], r: Result<Option<numbers::Number>, refusals::Unread>) -> u64
     ensures value { result ≡ length (parts_numbers r) }
     ensures reply_after { reply.new ≡ sets reply.old 0 (parts_numbers r) }
 {
     match r {
-        number_parts::Parts::Is(n) => {
-            let suffix = n.suffix;
-            put_six(
+        Ok(Some(n)) => {
+            let suffix = suffix_number(n.suffix);
+            put(
                 reply,
-                0,
-                1,
-                n.end as u64,
-                n.base as u64,
-                n.digits as u64,
-                suffix_number(suffix),
+                [0, 1, n.end as u64, n.base as u64, n.digits as u64, suffix],
             )
         }
-        number_parts::Parts::Nothing => put_two(reply, 0, 0),
-        number_parts::Parts::Refused(u) => put_unread(reply, u),
+        Ok(None) => put(reply, [0, 0]),
+        Err(u) => put_unread(reply, u),
     }
 }

@@ -8,6 +8,7 @@ use mathlib.Core.Logic.{inl}
 use native.Mathlib.Omega.{arith}
 use lib.ListN.{length, take, drop, length-replicate, drop_of_length-le}
 use lib.Seq.{length-take-le}
+use Rattle.std.specs.Prelude.{Result, Ok, Err}
 use Rattle.rules.specs.Limits.{max_levels, LineLimits}
 use Rattle.rules.specs.Line as RulesLine
 use Rattle.rules.specs.Line.{initial, token_at, dedents}
@@ -28,8 +29,7 @@ use Rattle.rereading.specs.Rewrites.{RoomFrom, MayWrite, EndIs}
 use Rattle.rereading.proofs.Rereads.{halts-whole}
 use Rattle.rereading.proofs.Rewrites.{more-lines, more-tokens}
 use Rattle.passes.specs.Passes.{pass_of, lines_in, tokens_in, RoomIn}
-use Rattle.passes.specs.declared.Pass.{Pass}
-use Rattle.passes.specs.declared.Pass.TheVariants.{Records, Refused}
+use Rattle.passes.specs.declared.Counts.{Counts}
 
 end-tokens : (es : List Entry) (z : RulesLine.State) → token_sum (with_end es z) ≡ token_sum es + length z.widths
 unfolding token_sum
@@ -84,24 +84,24 @@ module _ (lim : LineLimits) (fit : lim.levels ≤ max_levels) (t : List ℕ) (sh
         let r = subst (λ (y : Reading). RoomIn y (length lines₀) (length tokens₀)) v.is (room w) in
         (omega (arith, r.0, v.count), omega (arith, r.1, all-tokens v))
 
-    abbrev Passed : Pass → (lines tokens : List ℕ) → Type 0
+    abbrev Passed : Result Counts Unread → (lines tokens : List ℕ) → Type 0
     Passed r lines tokens = (r ≡ pass_of (read_lines lim t)) × ((lines ≡ put_if write lines₀ 0 (lines_in whole)) × (tokens ≡ put_if write tokens₀ 0 (tokens_in whole)))
 
     -- The buffers after reading on.
     module _ (lines tokens : List ℕ) (el : lines ≡ put_if write lines₀ 0 (line_records 0 0 (lines_read whole))) (et : tokens ≡ put_if write tokens₀ 0 (token_records 0 1 (lines_read whole))) where
       -- a text that does not read is not written
-      pub halted-pass : (u : Unread) → HaltsAs whole 0 0 u → Passed (Refused u) lines tokens
+      pub halted-pass : (u : Unread) → HaltsAs whole 0 0 u → Passed (Err u) lines tokens
       unfolding read_lines recorded_by
       halted-pass u x =
           let y = halts-whole x in
           let none : write ≡ true → ⊥ = λ w. subst (λ (y : Reading). RoomIn y (length lines₀) (length tokens₀)) y.2 (room w) in (
-            ap Refused y.3 ∙ ap (λ (r : Reading). pass_of (recorded_by r)) (sym y.2),
+            ap Err y.3 ∙ ap (λ (r : Reading). pass_of (recorded_by r)) (sym y.2),
             (el ∙ put_if-by write lines₀ 0 _ _ (λ w. absurd (none w)), et ∙ put_if-by write tokens₀ 0 _ _ (λ w. absurd (none w))),
           )
 
       -- the end's record and Dedents are written
       pub end-pass : {widths : List ℕ} {m k : ℕ} {s : State} → EndOf lim t widths m k s → (lines' tokens' : List ℕ) → lines' ≡ put_if write lines (line_size * m) (line_record (length t) k (state_of s widths))
-          → tokens' ≡ put_if write tokens (token_size * k) (token_words (length t) (m + 1) (dedents s.levels)) → Passed (Records m (k + s.levels)) lines' tokens'
+          → tokens' ≡ put_if write tokens (token_size * k) (token_words (length t) (m + 1) (dedents s.levels)) → Passed (Ok (record { bytes = length t; lines = m; tokens = k + s.levels })) lines' tokens'
       unfolding read_lines recorded_by records_of lines_read
       end-pass {widths} {m} {k} {s} v lines' tokens' el' et' =
           let z : RulesLine.State = state_of s widths in
@@ -114,7 +114,7 @@ module _ (lim : LineLimits) (fit : lim.levels ≤ max_levels) (t : List ℕ) (sh
           let L' : lines' ≡ put_if write lines (line_size * (0 + m)) (line_record (length t) k z) = el' ∙ ap (λ (n : ℕ). put_if write lines (line_size * n) (line_record (length t) k z)) hm in
           let T' : tokens' ≡ put_if write tokens (token_size * k) (token_words (length t) (0 + m + 1) (end_entry z).tokens) =
           et' ∙ (λ a. put_if write tokens (token_size * k) (token_words (length t) (hm a + 1) (dedents (sym v.levels a)))) in (
-            (λ a. Records (sym v.count a) (sym (all-tokens v) a)) ∙ ap (λ (r : Reading). pass_of (recorded_by r)) (sym v.is),
+            (λ a. Ok (record { bytes = sym (few es z v.is).1 a; lines = sym v.count a; tokens = sym (all-tokens v) a })) ∙ ap (λ (r : Reading). pass_of (recorded_by r)) (sym v.is),
             (
               more-lines write 0 0 0 es (end_entry z) m (length t) k v.count hp hk lines₀ lines lines' L L' ∙ ap (λ (r : Reading). put_if write lines₀ 0 (lines_in r)) (sym v.is),
               more-tokens write 0 0 0 es (end_entry z) m (length t) k v.count hp hk tokens₀ tokens tokens' T T' ∙ ap (λ (r : Reading). put_if write tokens₀ 0 (tokens_in r)) (sym v.is),

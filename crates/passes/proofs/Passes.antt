@@ -2,22 +2,29 @@
 -- Assumes nothing.
 use Prim.Native.Nat.{ℕ}
 use mathlib.Core.Path.{◌≡◌, sym, ap, ◌∙◌}
+use mathlib.Core.List.{List}
 use native.Mathlib.Omega.{arith}
+use Rattle.std.specs.Prelude.{Ok, Err}
+use Rattle.rules.specs.Limits.{Limits}
 use Rattle.rules.specs.Reading.{Reading, reads, halts}
-use Rattle.rules.specs.Records.{records_of, FreshReading, recorded, unread, recorded_by}
+use Rattle.rules.specs.Records.{records_of, FreshReading, recorded, unread, recorded_by, fresh_reading_by}
 use Rattle.refusals.specs.declared.Unread.{Unread}
-use Rattle.refusals.specs.Unreads.{unread_in, unread_of}
-use Rattle.refusals.proofs.Tests.{unread-back}
-use Rattle.passes.specs.declared.Pass.TheVariants as PassVariants
+use Rattle.refusals.specs.Unreads.{unread_in, unread_of, test_of}
+use Rattle.refusals.proofs.Tests.{unread-back, unread_there, fresh_refused}
+use Rattle.passes.specs.declared.Counts.{Counts}
 use Rattle.passes.specs.Passes.{pass_of, Counted}
 
-pub pass-counted : (x : Reading) (m k : ℕ) → PassVariants.Records m k ≡ pass_of (recorded_by x) → Counted m k x
+pub pass-counted : (x : Reading) (c : Counts) → Ok c ≡ pass_of (recorded_by x) → Counted c x
 unfolding recorded_by records_of
-pass-counted (reads es z) m k e = (cc, cc)
-pass-counted (halts es h) m k e = let b : ◌≡◌ {A = ℕ} 0 1 = cc in absurd (omega arith)
+pass-counted (reads es z) c e = (cc, cc, cc)
+pass-counted (halts es h) c e = let b : ◌≡◌ {A = ℕ} 0 1 = cc in absurd (omega arith)
 
-pub pass-refused : (f : FreshReading) (u : Unread) → PassVariants.Refused u ≡ pass_of f → f ≡ unread (unread_of u)
+pub pass-refused : (f : FreshReading) (u : Unread) → Err u ≡ pass_of f → f ≡ unread (unread_of u)
 pass-refused (recorded r) u e = let b : ◌≡◌ {A = ℕ} 0 1 = cc in absurd (omega arith)
 pass-refused (unread x) u e =
     let q : u ≡ unread_in x = cc in
     ap unread (sym (ap unread_of q ∙ unread-back x))
+
+-- a text that does not pass the tests 1 and 2
+pub refused_pass : (lim : Limits) (t : List ℕ) (u : Unread) → test_of lim t ≡ Err u → pass_of (fresh_reading_by lim t) ≡ Err u
+refused_pass lim t u h = ap pass_of (fresh_refused lim t u h) ∙ ap Err (unread_there u)

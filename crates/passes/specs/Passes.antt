@@ -1,16 +1,20 @@
 -- What a pass over a text gives and writes.
 -- Assumes nothing.
-use Rattle.std.specs.Prelude.{ℕ, ◌≤◌, ◌≡◌, List, [], length}
-use Rattle.rules.specs.Reading.{Reading, reads, halts, token_sum}
-use Rattle.rules.specs.Records.{line_need, token_need, with_end, records_of, FreshReading, recorded, unread}
+use Rattle.std.specs.Prelude.{ℕ, ◌≤◌, ◌≡◌, List, [], length, Result, Ok, Err}
+use Rattle.rules.specs.Reading.{Reading, reads, halts, byte_sum, token_sum}
+use Rattle.rules.specs.Records.{line_need, token_need, Header, with_end, records_of, FreshReading, recorded, unread}
 use Rattle.refusals.specs.Unreads.{unread_in}
-use Rattle.passes.specs.declared.Pass.{Pass}
-use Rattle.passes.specs.declared.Pass.TheVariants.{Records, Refused}
+use Rattle.refusals.specs.declared.Unread.{Unread}
+use Rattle.passes.specs.declared.Counts.{Counts}
 
--- the numbers of lines and tokens, or why the text does not read
-abbrev pub pass_of : FreshReading → Pass
-pass_of (recorded r) = Records r.head.m r.head.k
-pass_of (unread u) = Refused (unread_in u)
+-- the numbers of a header
+abbrev pub counts_of : Header → Counts
+counts_of h = record { bytes = h.n; lines = h.m; tokens = h.k }
+
+-- the numbers of bytes, lines and tokens, or why the text does not read
+abbrev pub pass_of : FreshReading → Result Counts Unread
+pass_of (recorded r) = Ok (counts_of r.head)
+pass_of (unread u) = Err (unread_in u)
 
 abbrev pub lines_in : Reading → List ℕ
 lines_in (reads es z) = (records_of es z).lines
@@ -25,7 +29,7 @@ abbrev pub RoomIn : Reading → (lines tokens : ℕ) → Type 0
 RoomIn (reads es z) lines tokens = (line_need (length es) ≤ lines) × (token_need (token_sum (with_end es z)) ≤ tokens)
 RoomIn (halts es h) lines tokens = ⊥
 
--- the text reads, with so many lines and tokens
-abbrev pub Counted : (m k : ℕ) → Reading → Type 0
-Counted m k (reads es z) = (m ≡ length es) × (k ≡ token_sum (with_end es z))
-Counted m k (halts es h) = ⊥
+-- the text reads, with so many bytes, lines and tokens
+abbrev pub Counted : Counts → Reading → Type 0
+Counted c (reads es z) = (c.bytes ≡ byte_sum es) × (c.lines ≡ length es) × (c.tokens ≡ token_sum (with_end es z))
+Counted c (halts es h) = ⊥

@@ -11,11 +11,12 @@ ghost use Rattle.refusals.specs.Limits.{line_limits_of, limits_of};
 ghost use Rattle.laws.specs.Puts.{put_if};
 ghost use Rattle.passes.specs.Passes.{pass_of, lines_in, tokens_in, RoomIn};
 
-// What a pass gives: the numbers of lines and tokens; or why the text does not read.
+// How many bytes, lines and tokens a text has.
 #[derive(Clone, Copy)]
-pub enum Pass {
-    Records(usize, usize),
-    Refused(refusals::Unread),
+pub struct Counts {
+    pub bytes: usize,
+    pub lines: usize,
+    pub tokens: usize,
 }
 
 // One pass over the lines of a text: it counts, and where it writes, it stores the records.
@@ -27,9 +28,9 @@ pub fn pass_lines(
     write: bool,
     limits: refusals::LineLimits,
     widths: &mut [u32],
-) -> Pass
+) -> Result<Counts, refusals::Unread>
     requires tables_value { tables.now ≡ all_tables }
-    requires text_len_bound { (length text.now ≤ 1_048_576) × (length widths.old ≡ max_levels) × (limits.levels ≤ max_levels) }
+    requires text_len_bound { (length text.now ≤ 1_048_576) × (length widths.old ≡ max_levels) }
     requires room_in { write ≡ true → RoomIn (read_from (line_limits_of limits) initial (lines_of text.now)) (length lines.old) (length tokens.old) }
     ensures value { result ≡ pass_of (read_lines (line_limits_of limits) text.now) }
     ensures lines_after { lines.new ≡ put_if write lines.old 0 (lines_in (read_from (line_limits_of limits) initial (lines_of text.now))) }
@@ -56,15 +57,19 @@ pub fn pass_lines(
                 start: n as u32,
             };
             lines::put_end(lines, tokens, end, s, widths);
-            Pass::Records(m, k + s.levels)
+            Ok(Counts {
+                bytes: n,
+                lines: m,
+                tokens: k + s.levels,
+            })
         }
-        rereading::ReadToEnd::Refused(u) => Pass::Refused(u),
+        rereading::ReadToEnd::Refused(u) => Err(u),
     }
 }
 
 // What a text gives that is read and not stored: a pass that only counts.
-fn count_lines(limits: refusals::LineLimits, text: &[u8]) -> Pass
-    requires { (length text.now ≤ 1_048_576) × (limits.levels ≤ max_levels) }
+fn count_lines(limits: refusals::LineLimits, text: &[u8]) -> Result<Counts, refusals::Unread>
+    requires { length text.now ≤ 1_048_576 }
     ensures { result ≡ pass_of (read_lines (line_limits_of limits) text.now) }
 {
     let tables = tables::tables();
@@ -83,12 +88,11 @@ fn count_lines(limits: refusals::LineLimits, text: &[u8]) -> Pass
 }
 
 // A text by itself, under given limits: 1, 2, then its lines, which are counted.
-pub fn open_text(limits: refusals::Limits, text: &[u8]) -> Pass
-    requires { (limits.bytes ≤ 1_048_576) × (limits.line.levels ≤ max_levels) }
+#[tactic(auto, using(refusals::proofs::Tests::fresh_passed, refusals::proofs::Tests::passed_short, crate::proofs::Passes::refused_pass))]
+pub fn open_text(limits: refusals::Limits, text: &[u8]) -> Result<Counts, refusals::Unread>
+    requires { (limits.bytes ≤ 1_048_576) × (limits.levels ≤ max_levels) }
     ensures { result ≡ pass_of (fresh_reading_by (limits_of limits) text.now) }
 {
-    match refusals::test_text(limits, text) {
-        refusals::TextTest::Passes => count_lines(limits.line, text),
-        refusals::TextTest::Refused(u) => Pass::Refused(u),
-    }
+    refusals::test_text(limits, text)?;
+    count_lines(limits.line(), text)
 }

@@ -12,15 +12,6 @@ ghost use Rattle.refusals.specs.Limits.{line_limits_of, limits_of};
 ghost use Rattle.passes.specs.Passes.{Counted};
 ghost use Rattle.reading.specs.Answers.{read_numbers};
 
-// The answer of `read`: bytes, lines and tokens; or why the text does not read, or 5 for one of the two buffers with its least length.
-#[derive(Clone, Copy)]
-pub enum ReadAnswer {
-    Records(usize, usize, usize),
-    Refused(refusals::Unread),
-    ShortLines(usize),
-    ShortTokens(usize),
-}
-
 // The records of a text that was counted, where both buffers hold them.
 fn store_records(
     tables: &[u8; tables::SIZE],
@@ -29,24 +20,25 @@ fn store_records(
     tokens: &mut [u32],
     limits: refusals::LineLimits,
     widths: &mut [u32],
-    m: usize,
-    k: usize,
-) -> ReadAnswer
+    counts: passes::Counts,
+) -> Result<passes::Counts, refusals::Refusal>
     requires tables_value { tables.now ≡ all_tables }
-    requires text_len_bound { (length text.now ≤ 1_048_576) × (length widths.old ≡ max_levels) × (limits.levels ≤ max_levels) }
-    requires counted { Counted m k (read_from (line_limits_of limits) initial (lines_of text.now)) }
+    requires text_len_bound { (length text.now ≤ 1_048_576) × (length widths.old ≡ max_levels) }
+    requires counted { Counted counts (read_from (line_limits_of limits) initial (lines_of text.now)) }
     ensures result_value { read_numbers result ≡ (filled_by lines.old tokens.old (read_lines (line_limits_of limits) text.now)).reply }
     ensures lines_after { lines.new ≡ (filled_by lines.old tokens.old (read_lines (line_limits_of limits) text.now)).lines }
     ensures tokens_after { tokens.new ≡ (filled_by lines.old tokens.old (read_lines (line_limits_of limits) text.now)).tokens }
 {
-    if lines.len() < records::LINE * (m + 1) {
-        return ReadAnswer::ShortLines(records::LINE * (m + 1));
+    let line_words = records::LINE * (counts.lines + 1);
+    if lines.len() < line_words {
+        return Err(refusals::Refusal::Short(refusals::Buffer::Lines, line_words));
     }
-    if tokens.len() < records::TOKEN * k {
-        return ReadAnswer::ShortTokens(records::TOKEN * k);
+    let token_words = records::TOKEN * counts.tokens;
+    if tokens.len() < token_words {
+        return Err(refusals::Refusal::Short(refusals::Buffer::Tokens, token_words));
     }
     let _ = passes::pass_lines(tables, text, lines, tokens, true, limits, widths);
-    ReadAnswer::Records(text.len(), m, k)
+    Ok(counts)
 }
 
 // A text that passed tests 1 and 2: it is counted, then its records are stored.
@@ -55,49 +47,42 @@ fn read_lines(
     text: &[u8],
     lines: &mut [u32],
     tokens: &mut [u32],
-) -> ReadAnswer
-    requires { (length text.now ≤ 1_048_576) × (limits.levels ≤ max_levels) }
+) -> Result<passes::Counts, refusals::Refusal>
+    requires { length text.now ≤ 1_048_576 }
     ensures result_value { read_numbers result ≡ (filled_by lines.old tokens.old (read_lines (line_limits_of limits) text.now)).reply }
     ensures lines_after { lines.new ≡ (filled_by lines.old tokens.old (read_lines (line_limits_of limits) text.now)).lines }
     ensures tokens_after { tokens.new ≡ (filled_by lines.old tokens.old (read_lines (line_limits_of limits) text.now)).tokens }
 {
     let tables = tables::tables();
     let mut widths: [u32; records::LEVELS] = [0; records::LEVELS];
-    match passes::pass_lines(&tables, text, lines, tokens, false, limits, &mut widths) {
-        passes::Pass::Records(m, k) => store_records(
-            &tables,
-            text,
-            lines,
-            tokens,
-            limits,
-            &mut widths,
-            m,
-            k,
-        ),
-        passes::Pass::Refused(u) => ReadAnswer::Refused(u),
-    }
+    let counts = passes::pass_lines(&tables, text, lines, tokens, false, limits, &mut widths)?;
+    store_records(&tables, text, lines, tokens, limits, &mut widths, counts)
 }
 
-// A text by itself, under given limits: its records at the front of the lent buffers, or a refusal that leaves them untouched.
+// A text by itself, under given limits: its records at the front of the lent buffers, and how many bytes, lines and tokens it has; or a refusal
+// that leaves the buffers untouched: why the text does not read, or 5 for one of the two buffers.
+#[tactic(auto, using(refusals::proofs::Tests::fresh_refused, refusals::proofs::Tests::fresh_passed, refusals::proofs::Tests::passed_short), unfolding(rules::specs::Read::filled_by))]
 pub fn read_within(
     limits: refusals::Limits,
     text: &[u8],
     lines: &mut [u32],
     tokens: &mut [u32],
-) -> ReadAnswer
-    requires { (limits.bytes ≤ 1_048_576) × (limits.line.levels ≤ max_levels) }
+) -> Result<passes::Counts, refusals::Refusal>
+    requires { (limits.bytes ≤ 1_048_576) × (limits.levels ≤ max_levels) }
     ensures result_value { read_numbers result ≡ (filled_by lines.old tokens.old (fresh_reading_by (limits_of limits) text.now)).reply }
     ensures lines_after { lines.new ≡ (filled_by lines.old tokens.old (fresh_reading_by (limits_of limits) text.now)).lines }
     ensures tokens_after { tokens.new ≡ (filled_by lines.old tokens.old (fresh_reading_by (limits_of limits) text.now)).tokens }
 {
-    match refusals::test_text(limits, text) {
-        refusals::TextTest::Passes => read_lines(limits.line, text, lines, tokens),
-        refusals::TextTest::Refused(u) => ReadAnswer::Refused(u),
-    }
+    refusals::test_text(limits, text)?;
+    read_lines(limits.line(), text, lines, tokens)
 }
 
 // The same under the barge's limits.
-pub fn read(text: &[u8], lines: &mut [u32], tokens: &mut [u32]) -> ReadAnswer
+pub fn read(
+    text: &[u8],
+    lines: &mut [u32],
+    tokens: &mut [u32],
+) -> Result<passes::Counts, refusals::Refusal>
     ensures result_value { read_numbers result ≡ (read_into text.now lines.old tokens.old).reply }
     ensures lines_after { lines.new ≡ (read_into text.now lines.old tokens.old).lines }
     ensures tokens_after { tokens.new ≡ (read_into text.now lines.old tokens.old).tokens }
