@@ -1,11 +1,8 @@
--- The answer of `check`, in the document's numbers.
+-- The answer of `check`, in the document's values.
 -- Assumes nothing.
-use Rattle.std.specs.Prelude.{[], ◌∷◌}
-use Rattle.rules.specs.Replies.{Reply}
-use Rattle.checking.specs.declared.CheckAnswer.{CheckAnswer}
-use Rattle.checking.specs.declared.CheckAnswer.TheVariants.{Faithful, Stale, Unfit}
+use Rattle.std.specs.Prelude.{ℕ, Bool, List, [], ◌∷◌}
+use Rattle.rules.specs.Lists.{bit}
 
-abbrev pub check_numbers : CheckAnswer → Reply
-check_numbers Faithful = 0 ∷ 1 ∷ []
-check_numbers Stale = 0 ∷ 0 ∷ []
-check_numbers Unfit = 7 ∷ []
+-- yes or no
+abbrev pub check_values : Bool → List ℕ
+check_values same = bit same ∷ []

@@ -6,18 +6,14 @@ ghost use Rattle.rules.specs.Limits.{max_levels};
 ghost use Rattle.rules.specs.Records.{line_size, token_size, header, read_lines, fresh_reading};
 ghost use Rattle.rules.specs.Page.{is_recorded};
 ghost use Rattle.rules.specs.Check.{check_reply};
-ghost use Rattle.header.specs.Pages.{page};
+ghost use Rattle.header.specs.Pages.{lent_page};
 ghost use Rattle.tables.specs.All.{all_tables};
 ghost use Rattle.refusals.specs.Limits.{line_limits_of};
-ghost use Rattle.checking.specs.Answers.{check_numbers};
+ghost use Rattle.refusals.specs.Replies.{reply_of};
+ghost use Rattle.checking.specs.Answers.{check_values};
 
-// The answer of `check`: header and records are those of a fresh reading; they are not; the header needs more than is lent.
-#[derive(Clone, Copy)]
-pub enum CheckAnswer {
-    Faithful,
-    Stale,
-    Unfit,
-}
+use header::Page;
+use refusals::Refusal;
 
 // All lines, held against the records of a page with `count` lines and `total` tokens.
 fn lines_agree(
@@ -82,7 +78,7 @@ fn is_fresh(text: &[u8], lines: &[u32], tokens: &[u32], count: usize, total: usi
     ensures { result ≡ is_recorded (record { head = header (length text.now) count total; lines = lines.now; tokens = tokens.now }) (fresh_reading text.now) }
 {
     let limits = refusals::barge_limits();
-    if let refusals::TextTest::Refused(_) = refusals::test_text(limits, text) {
+    if refusals::test_text(limits, text).is_err() {
         return false;
     }
     let tables = tables::tables();
@@ -94,31 +90,28 @@ fn is_fresh(text: &[u8], lines: &[u32], tokens: &[u32], count: usize, total: usi
         tokens,
         count,
         total,
-        limits.line,
+        limits.line(),
         &mut widths,
     )
 }
 
-// A page: 7 for its header; otherwise yes exactly if header and records are those of a fresh reading. Nothing is written.
-pub fn check(n: u32, m: u32, k: u32, text: &[u8], lines: &[u32], tokens: &[u32]) -> CheckAnswer
-    ensures { check_numbers result ≡ check_reply (page n m k text.now lines.now tokens.now) }
+// A page: refused by its header; otherwise yes exactly if header and records are those of a fresh reading. Nothing is written.
+pub fn check(page: Page) -> Result<bool, Refusal>
+    ensures { reply_of check_values result ≡ check_reply (lent_page page.entry) }
 {
-    if !header::fits(n, m, k, text.len(), lines.len(), tokens.len()) {
-        return CheckAnswer::Unfit;
+    if !page.fits() {
+        return Err(Refusal::Unfit);
     }
-    let size = n as usize;
-    let count = m as usize;
-    let total = k as usize;
+    let size = page.head.n as usize;
+    let count = page.head.m as usize;
+    let total = page.head.k as usize;
     let line_words = records::LINE * (count + 1);
     let token_words = records::TOKEN * total;
-    if is_fresh(
-        &text[0..size],
-        &lines[0..line_words],
-        &tokens[0..token_words],
+    Ok(is_fresh(
+        &page.text[..size],
+        &page.lines[..line_words],
+        &page.tokens[..token_words],
         count,
         total,
-    ) {
-        return CheckAnswer::Faithful;
-    }
-    CheckAnswer::Stale
+    ))
 }

@@ -3,27 +3,19 @@
 
 ghost use Rattle.std.specs.Prelude.{◌≡◌, length};
 ghost use Rattle.rules.specs.Page.{fresh_reply, fresh_lines};
-ghost use Rattle.fresh_page.specs.Answers.{fresh_numbers};
+ghost use Rattle.refusals.specs.Replies.{reply_of};
+ghost use Rattle.fresh_page.specs.Answers.{fresh_values};
 
-// The answer of `fresh`: the header 0, 0, 0; or 5 for the line words with their least length.
-#[derive(Clone, Copy)]
-pub enum FreshAnswer {
-    Fresh,
-    ShortLines(usize),
-}
+use refusals::{Buffer, Refusal};
 
-// The fresh page: one line record of zeros; nothing else is touched.
-pub fn fresh(lines: &mut [u32]) -> FreshAnswer
-    ensures result_value { fresh_numbers result ≡ fresh_reply (length lines.old) }
+// The fresh page, whose header is 0, 0, 0: one line record of zeros; nothing else is touched.
+pub fn fresh(lines: &mut [u32]) -> Result<(), Refusal>
+    ensures result_value { reply_of fresh_values result ≡ fresh_reply (length lines.old) }
     ensures lines_after { lines.new ≡ fresh_lines lines.old }
 {
     if lines.len() < records::LINE {
-        return FreshAnswer::ShortLines(records::LINE);
+        return Err(Refusal::Short(Buffer::Lines, records::LINE));
     }
-    let mut i: usize = 0;
-    while i < records::LINE {
-        lines[i] = 0;
-        i += 1;
-    }
-    FreshAnswer::Fresh
+    lines[..records::LINE].fill(0);
+    Ok(())
 }

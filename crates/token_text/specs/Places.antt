@@ -1,9 +1,8 @@
 -- Where a token's text stands in memory: it is handed back as a part of a lent slice, not as a copy.
 -- Assumes nothing.
 use Rattle.std.specs.Prelude.{ℕ, ◌+◌, eqb, if◌then◌else◌}
-use Rattle.rules.specs.Replies.{text_buffer, first_of, unless}
-use Rattle.rules.specs.Page.{Page}
-use Rattle.rules.specs.TokenText.{Part, part, part_tests, part_of}
+use Rattle.rules.specs.Replies.{text_buffer}
+use Rattle.rules.specs.TokenText.{Part}
 
 -- a place in memory: a block, and the offset of a byte in it
 abbrev pub Place : Type 0
@@ -16,7 +15,3 @@ after p n = (p.0, n + p.1)
 -- where a part of the text or of the names begins, from where these two begin
 abbrev pub part_place : (text names : Place) → Part → Place
 part_place text names p = after (if eqb p.buffer text_buffer then text else names) p.start
-
--- the part that is handed back for token i: none of the text's bytes, from its beginning, where it is refused
-abbrev pub handed_part : Page → (i names : ℕ) → Part
-handed_part pg i names = unless (first_of (part_tests pg i names)) (λ r. part text_buffer 0 0) (part_of pg i)

@@ -1,20 +1,21 @@
 -- A step of a walk, by how many words are left.
 -- Assumes nothing.
 use Prim.Native.Nat.{ℕ, suc, ◌+◌, ◌*◌, ◌≤◌, ◌<◌}
-use mathlib.Core.Path.{◌≡◌, refl, sym, ap, ◌∙◌}
+use mathlib.Core.Path.{◌≡◌, refl, ap, ◌∙◌}
 use mathlib.Core.Bool.{Bool, true, false}
 use mathlib.Core.List.{List, [], ◌∷◌}
 use native.Mathlib.Numerals.{add-one}
 use native.Mathlib.Omega.{arith}
 use lib.ListN.{length, get_or, take, drop}
 use lib.Seq.{drop-cons}
-use borrow.Author.Tests.{lt-ltb, le-ltb}
+use borrow.Author.Tests.{lt-ltb, le-ltb, ltb-false}
+use Rattle.std.specs.Prelude.{Option, Some, None, ⊤}
+use Rattle.std.specs.Iterator.{MakesProgress, at_most}
 use Rattle.rules.specs.Walk.{is_walked, walk_reply}
 use Rattle.rules.specs.Records.{token_size}
-use Rattle.token_walk.specs.Steps.{record_numbers, step_numbers}
-use Rattle.token_walk.specs.declared.Step.{Step}
-use Rattle.token_walk.specs.declared.Step.TheVariants.{Record}
+use Rattle.token_walk.specs.Steps.{record_numbers, step_numbers, tokens_left}
 use Rattle.token_walk.specs.declared.TokenRecord.{TokenRecord}
+use Rattle.token_walk.specs.declared.TokenWalk.{TokenWalk}
 
 -- the five words from place k on
 abbrev words_at : List ℕ → (k : ℕ) → List ℕ
@@ -34,18 +35,23 @@ module _ (ts : List ℕ) (i : ℕ) where
   unfolding walk_reply is_walked
   goes_on_lem h = rw (le-ltb (length ts) (token_size * i + 5) h, five-words ts (token_size * i) h, add-one i)
 
-  -- a step that gives a record goes one further
-  pub one_further : (r : Step) → step_numbers r ≡ walk_reply ts i → (after : ℕ) (t : TokenRecord) → r ≡ Record after t → after ≡ suc i
-  unfolding walk_reply
-  one_further r e after t f = go (is_walked ts i) refl
+  -- a step that gives a record goes one further, and a record was left
+  pub one_further : (after : ℕ) (t : TokenRecord) → step_numbers (after, Some t) ≡ walk_reply ts i → (after ≡ suc i) × (token_size * i + token_size ≤ length ts)
+  unfolding walk_reply is_walked
+  one_further after t e = go (is_walked ts i) refl
     where
-      told : (0 ∷ 1 ∷ after ∷ record_numbers t) ≡ walk_reply ts i
-      told = sym (ap step_numbers f) ∙ e
-
-      go : (b : Bool) → is_walked ts i ≡ b → after ≡ suc i
+      go : (b : Bool) → is_walked ts i ≡ b → (after ≡ suc i) × (token_size * i + token_size ≤ length ts)
       go true w =
-          let h : (0 ∷ 1 ∷ after ∷ record_numbers t) ≡ (0 ∷ 0 ∷ i ∷ []) = told ∙ rw w in
+          let h : (0 ∷ 1 ∷ after ∷ record_numbers t) ≡ (0 ∷ 0 ∷ i ∷ []) = e ∙ rw w in
           absurd (omega (arith, ap length h))
       go false w =
-          let h : (0 ∷ 1 ∷ after ∷ record_numbers t) ≡ (0 ∷ 1 ∷ suc i ∷ take 5 (drop (token_size * i) ts)) = told ∙ rw w in
-          cc
+          let h : (0 ∷ 1 ∷ after ∷ record_numbers t) ≡ (0 ∷ 1 ∷ suc i ∷ take 5 (drop (token_size * i) ts)) = e ∙ rw w in
+          (cc, ltb-false (length ts) (token_size * i + token_size) w)
+
+-- a record of a walk as an iterator leaves fewer
+pub nearer : (w : TokenWalk) (after : ℕ) (r : Option TokenRecord) → step_numbers (after, r) ≡ walk_reply w.words.now w.next
+    → MakesProgress (λ _. ⊤) (λ v. at_most (tokens_left v)) w r (record { words = w.words; next = after })
+nearer w after None e = record { on = λ _. tt; keeps = tt; rests = λ x. tt }
+nearer w after (Some t) e =
+    let g = one_further w.words.now w.next after t e in
+    record { on = λ x. (tt, tt, omega (arith, g.0, g.1)); keeps = tt; rests = λ _. tt }

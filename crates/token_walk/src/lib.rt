@@ -15,19 +15,13 @@ pub struct TokenRecord {
     pub column: u32,
 }
 
-// A step of a walk: the next number and a record, or done with the number kept.
-#[derive(Clone, Copy)]
-pub enum Step {
-    Record(usize, TokenRecord),
-    Done(usize),
-}
-
-// One step over the token words from the token of this number. It is compared by division: 5 · next may be beyond any word.
-pub fn walk_step(tokens: &[u32], next: usize) -> Step
+// One step over the token words from the token of this number: the next number and a record; or none, and the number kept. It is compared
+// by division: 5 · next may be beyond any word.
+pub fn walk_step(tokens: &[u32], next: usize) -> (usize, Option<TokenRecord>)
     ensures { step_numbers result ≡ walk_reply tokens.now next }
 {
     if tokens.len() / records::TOKEN <= next {
-        return Step::Done(next);
+        return (next, None);
     }
     let at = records::TOKEN * next;
     let record = TokenRecord {
@@ -37,7 +31,7 @@ pub fn walk_step(tokens: &[u32], next: usize) -> Step
         line: tokens[at + 3],
         column: tokens[at + 4],
     };
-    Step::Record(next + 1, record)
+    (next + 1, Some(record))
 }
 
 // A walk over the token records: it holds the token words and the number of the next token.
@@ -56,7 +50,7 @@ impl<'a> TokenWalk<'a> {
     }
 
     // One step.
-    pub fn step(self) -> Step
+    pub fn step(self) -> (usize, Option<TokenRecord>)
         ensures { step_numbers result ≡ walk_reply self.entry.words.now self.entry.next }
     {
         walk_step(self.words, self.next)
@@ -73,8 +67,26 @@ impl<'a> TokenWalk<'a> {
     }
 }
 
+// Its items are the records that its steps give, to the end of the walk.
+impl<'a> Iterator for TokenWalk<'a> {
+    ghost use Rattle.std.specs.Iterator.{at_most};
+    ghost use Rattle.token_walk.specs.Steps.{GivesRecord, tokens_left};
+
+    type Item = TokenRecord;
+
+    ghost next_gives = { GivesRecord };
+
+    ghost remaining = { λ w. at_most (tokens_left w) };
+
+    fn next(&mut self) -> Option<TokenRecord> {
+        let (next, record) = walk_step(self.words, self.next);
+        self.next = next;
+        record
+    }
+}
+
 // One step of a walk over these words, begun and moved to the token of this number.
-pub fn step_from(words: &[u32], next: usize) -> Step
+pub fn step_from(words: &[u32], next: usize) -> (usize, Option<TokenRecord>)
     ensures { step_numbers result ≡ walk_reply words.now next }
 {
     TokenWalk::new(words).moved(next).step()

@@ -1,22 +1,28 @@
 -- `token_text::token_text` meets its contract.
+use mathlib.Core.Path.{◌∙◌, ap}
 use lib.ListN.{length}
-use Rattle.header.specs.Pages.{page}
-use Rattle.token_text.proofs.Texts.{handed, none-handed, number-told}
+use Rattle.rules.specs.TokenText.{part_bytes}
+use Rattle.header.specs.Pages.{lent_page}
+use Rattle.token_text.specs.Places.{part_place}
+use Rattle.token_text.proofs.Texts.{refused, accepts, part-is, text_lem}
+use borrow.Author.Rules.{rules}
 use Rattle.token_text.proofs.token_text.Goals as goal
 
-pub returns-in-Granted : goal.returns-in-Granted
-returns-in-Granted c =
+pub returns-in_err-token : goal.returns-in_err-token
+returns-in_err-token c =
     let a = c.args in
-    let pg = page a.n a.m a.k a.text.now a.lines.now a.tokens.now in
-    let came = c.ask-asked.ensures in
-    let d = c.text_by_kind.ensures in
-    let h = handed pg a.i a.names.now a.text.ref_ptr a.names.ref_ptr c.ask-asked.result came _ _ _ c.in-Granted.is _ _ d.result_value d.ref_ptr_value in
-    record { result_value = h.0; ref_ptr_value = h.1; number_after = number-told pg a.i (length a.names.now) c.ask-asked.result came _ c.number_of.ensures }
+    let e = refused (lent_page a.page) a.i (length a.names.now) _ c.in_err-token.ensures.refusal in
+    search (rules, e)
 
-pub returns-in_default : goal.returns-in_default
-returns-in_default c =
+pub returns : goal.returns
+returns c =
     let a = c.args in
-    let pg = page a.n a.m a.k a.text.now a.lines.now a.tokens.now in
-    let came = c.ask-asked.ensures in
-    let h = none-handed pg a.i a.names.now a.text.ref_ptr a.names.ref_ptr c.ask-asked.result came c.in_default.not-Granted in
-    record { result_value = h.0; ref_ptr_value = h.1; number_after = number-told pg a.i (length a.names.now) c.ask-asked.result came _ c.number_of.ensures }
+    let pg = lent_page a.page in
+    let asked = c.in_ok-token.ensures in
+    let d = c.text_by_kind.ensures in
+    let p = part-is pg a.i (length a.names.now) _ asked.granted in
+    record {
+      told = accepts pg a.i (length a.names.now) asked.refusal;
+      text = d.result_value ∙ ap (part_bytes a.page.text.now a.names.now) p ∙ text_lem pg a.i a.names.now asked.refusal;
+      place = d.ref_ptr_value ∙ ap (part_place a.page.text.ref_ptr a.names.ref_ptr) p;
+    }
