@@ -4,16 +4,16 @@ use Prim.Native.Nat.{ℕ, ◌+◌, ◌-◌, ◌*◌, ◌≤◌, ◌<◌, min}
 use mathlib.Core.Path.{◌≡◌, sym, ap, subst, ◌∙◌}
 use mathlib.Core.Bool.{true, false, false≢true}
 use mathlib.Core.List.{List, [], ◌∷◌, ◌++◌}
-use mathlib.Core.Logic.{⊎_elim}
+use mathlib.Core.Logic.{inl, inr}
 use mathlib.Core.Option.{none}
 use native.Mathlib.Omega.{arith}
 use lib.ListN.{length, take, drop, length-append}
 use lib.Seq.{sets, length-take-le, take-take, take_at}
-use types.Run.{OneOf}
-use denote.Enum.Declared.{tag_of}
 use borrow.Author.Tests.{lt-ltb, le-ltb}
+use Rattle.std.specs.Prelude.{Result, Ok, Err, ◌⊎◌}
 use Rattle.rules.specs.Lists.{overwrite}
-use Rattle.rules.specs.Reading.{lines_of, Reading, byte_sum, token_sum}
+use Rattle.rules.specs.Reading as RulesReading
+use Rattle.rules.specs.Reading.{lines_of, byte_sum, token_sum}
 use Rattle.rules.specs.Limits.{max_bytes, barge, barge_line}
 use Rattle.rules.specs.Replies.{Refusal, reading, short, outside, unfit, numbered, numbered_unread, text_buffer, spare_buffer, lines_buffer, tokens_buffer, refused_if, first_of, unless, is_too_long, too_long_by, malformed_by}
 use Rattle.rules.specs.Records.{line_size, token_size, line_need, token_need, line_records, token_records, header, end_entry, with_end, Records, records_of, record_tests, recorded_by, recorded, read_lines, Behind}
@@ -30,34 +30,31 @@ use Rattle.rules.proofs.BufferLaws.{overwrite_take}
 use Rattle.rules.proofs.PageLaws.{unread-kept, fits_true, page_length, fresh_inverse}
 use Rattle.rules.proofs.GateLaws.{gate-order, gate-past, gate-long, gate-text, gate-spare, gate-malformed, gate-clear}
 use Rattle.rules.proofs.ContractLaws.{unfit-post, shut_post, clear-post}
-use Rattle.refusals.specs.Unreads.{record_of, unread_in, unread_of, test_of}
+use Rattle.refusals.specs.Unreads.{record_of, unread_in, unread_of, buffer_number, test_of}
 use Rattle.refusals.specs.declared.Unread.{Unread}
 use Rattle.refusals.specs.declared.Unread.TheVariants.{TooLong, Malformed, Fails, AtLine}
-use Rattle.refusals.specs.declared.TextTest.{TextTest}
-use Rattle.refusals.specs.declared.TextTest.TheVariants as tests
+use Rattle.refusals.specs.declared.Buffer.{Buffer}
+use Rattle.refusals.specs.declared.Buffer.TheVariants.{Text, Spare, Lines, Tokens}
+use Rattle.refusals.specs.declared.Refusal as refusal
+use Rattle.refusals.specs.declared.Refusal.TheVariants.{Reading, Short, Outside, Unfit}
 use Rattle.refusals.proofs.Tests.{Tested, tested, test_passes}
 use Rattle.moving.specs.Moved.{moved_lines, moved_tokens}
 use Rattle.copies.proofs.Joins.{run-over, back-over}
 use Rattle.moving.proofs.Shifts.{length_moved_lines, length_moved_tokens}
 use Rattle.plans.specs.Plans.{lines_after, tokens_after, Planned, Roomy, Mends, LineRefusal, OnPaper, PlanIs}
 use Rattle.plans.specs.declared.Plan.{Plan}
-use Rattle.plans.specs.declared.PlanAnswer.{PlanAnswer}
-use Rattle.plans.specs.declared.PlanAnswer.TheVariants as plan
-use Rattle.plans.specs.contracts.PlanAnswer as planned
 use Rattle.writing.proofs.Writes.{written-sizes}
 use Rattle.writing.specs.Writes.{written, line_tail, token_tail, written_lines, written_tokens}
-use Rattle.editing.specs.Answers.{edit_numbers, refusal_by, lent, lent_after}
-use Rattle.editing.specs.declared.EditAnswer.{EditAnswer}
-use Rattle.editing.specs.declared.EditAnswer.TheVariants as answer
-use Rattle.editing.specs.declared.EditAnswer.TheVariants.{Edited, ShortText, ShortSpare, ShortLines, ShortTokens, Outside, Unfit}
+use Rattle.editing.specs.Answers.{edit_numbers, edited_by, lent, lent_after}
+use Rattle.editing.specs.declared.Edited.{Edited}
 use Rattle.editing.proofs.Mended.{line-words, token-words}
 
 -- what an edit answers, and the buffers afterwards
-abbrev pub Answered : Lent → Edit → EditAnswer → (text spare lines tokens : List ℕ) → Type 0
+abbrev pub Answered : Lent → Edit → Result Edited refusal.Refusal → (text spare lines tokens : List ℕ) → Type 0
 Answered q ed r text spare lines tokens = EditPost q ed (edit_numbers r) (lent_after q.page.head (edit_numbers r) text spare lines tokens)
 
 -- a refusal: the page is as it was
-abbrev pub Refused : Lent → Edit → EditAnswer → (spare : List ℕ) → Type 0
+abbrev pub Refused : Lent → Edit → Result Edited refusal.Refusal → (spare : List ℕ) → Type 0
 Refused q ed r spare = Answered q ed r q.page.text spare q.page.lines q.page.tokens
 
 -- a page that fits, and a proper range of it
@@ -74,6 +71,18 @@ pub record Spliced (q : Lent) (ed : Edit) (size : ℕ) (s : List ℕ) : Type 0 w
   pub in_text : size ≤ length q.page.text
   pub in_spare : size ≤ length q.spare
   pub spare-is : s ≡ overwrite (edited (page_text q.page) ed) q.spare
+
+pub spliced : (q : Lent) (ed : Edit) (size : ℕ) (s : List ℕ) → fits q.page ≡ true → (ed.a ≤ ed.b) × ((ed.b ≤ q.page.head.n) × (size ≡ length (edited (page_text q.page) ed)))
+    → (size ≤ 1_048_576) × ((size ≤ length q.page.text) × (size ≤ length q.spare)) → s ≡ overwrite (edited (page_text q.page) ed) q.spare → Spliced q ed size s
+spliced q ed size s f r b e =
+    record {
+      ranged = record { fit = f; order = r.0; inside = r.1.0 };
+      size_is = r.1.1;
+      small = b.0;
+      in_text = b.1.0;
+      in_spare = b.1.1;
+      spare-is = e;
+    }
 
 module _ (q : Lent) (ed : Edit) where
   abbrev pg : Page
@@ -113,20 +122,21 @@ module _ (q : Lent) (ed : Edit) where
   u = edited t ed
 
   -- the edited text is refused by itself: the header stays
-  unread-edit : (x : Unread) (s : List ℕ) → EditPost q ed (numbered_unread (unread_of x)) (record { page = pg; spare = s }) → Refused q ed (answer.Refused x) s
+  unread-edit : (x : Unread) (s : List ℕ) → EditPost q ed (numbered_unread (unread_of x)) (record { page = pg; spare = s }) → Refused q ed (Err (Reading x)) s
+  unfolding numbered
   unread-edit x s post = rw (unread-kept pg.head (unread_of x)) post
 
   -- 7: every buffer is as it was
-  pub unfit-edit : fits pg ≡ false → Refused q ed Unfit q.spare
+  pub unfit-edit : fits pg ≡ false → Refused q ed (Err Unfit) q.spare
   unfolding numbered header_after
   unfit-edit e = unfit-post q ed e
 
   -- 6
-  pub order-edit : fits pg ≡ true → b < a → Refused q ed Outside q.spare
+  pub order-edit : fits pg ≡ true → b < a → Refused q ed (Err Outside) q.spare
   unfolding reply_of after numbered header_after
   order-edit fit x = shut_post q ed (early outside) fit (gate-order (sizes q) t ed x)
 
-  pub past-edit : fits pg ≡ true → n < b → Refused q ed Outside q.spare
+  pub past-edit : fits pg ≡ true → n < b → Refused q ed (Err Outside) q.spare
   unfolding reply_of after numbered header_after
   past-edit fit x = shut_post q ed (early outside) fit (gate-past (sizes q) t ed (omega (arith, page_length pg (fits_true pg fit))))
 
@@ -151,7 +161,7 @@ module _ (q : Lent) (ed : Edit) where
 
     -- 1
     pub long-edit : (bytes number size : ℕ) → bytes ≡ max_bytes → number ≡ 1 → size ≡ min (a + length w + (n - b)) 18_446_744_073_709_551_615 → bytes < size
-        → Refused q ed (answer.Refused (TooLong number size)) q.spare
+        → Refused q ed (Err (Reading (TooLong number size))) q.spare
     unfolding reply_of after numbered numbered_unread is_too_long too_long_by
     long-edit bytes number size eb en e x =
         let s : min (length u) 18_446_744_073_709_551_615 ≡ size = ap (λ (y : ℕ). min y 18_446_744_073_709_551_615) size_is ∙ sym e in
@@ -165,13 +175,13 @@ module _ (q : Lent) (ed : Edit) where
       short-enough = le-ltb max_bytes (length u) (omega (arith, es))
 
       -- 5
-      pub text-edit : length text < size → Refused q ed (ShortText size) q.spare
+      pub text-edit : length text < size → Refused q ed (Err (Short Text size)) q.spare
       unfolding reply_of after numbered header_after
       text-edit x =
           subst (λ (y : ℕ). EditPost q ed (5 ∷ text_buffer ∷ y ∷ []) q) (sym es)
           (shut_post q ed (early (short text_buffer (length u))) rg.fit (gate-text (sizes q) t ed proper short-enough (omega (arith, es))))
 
-      pub spare-edit : size ≤ length text → length q.spare < size → Refused q ed (ShortSpare size) q.spare
+      pub spare-edit : size ≤ length text → length q.spare < size → Refused q ed (Err (Short Spare size)) q.spare
       unfolding reply_of after numbered header_after
       spare-edit in_text x =
           subst (λ (y : ℕ). EditPost q ed (5 ∷ spare_buffer ∷ y ∷ []) q) (sym es)
@@ -195,20 +205,20 @@ module _ (q : Lent) (ed : Edit) where
     short-text = short-enough ok.ranged es ok.small
 
     -- 2: the spare holds the edited text
-    pub form_edit : (x : Unread) → test_of barge (take size s) ≡ tests.Refused x → Refused q ed (answer.Refused x) s
+    pub form_edit : (x : Unread) → test_of barge (take size s) ≡ Err x → Refused q ed (Err (Reading x)) s
     unfolding reply_of after numbered malformed_by
     form_edit x h = go (test_of barge u) (tested barge u) (ap (test_of barge) (sym held) ∙ h)
       where
-        go : (r : TextTest) → Tested barge u r → r ≡ tests.Refused x → Refused q ed (answer.Refused x) s
-        go tests.Passes (Tested.passes e f) c = let z : ◌≡◌ {A = ℕ} 0 1 = cc in absurd (omega arith)
-        go (tests.Refused y) (Tested.long e) c = absurd (false≢true (sym short-text ∙ e))
-        go (tests.Refused y) (Tested.ill_formed e f) c =
+        go : (r : Result (Unit {0}) Unread) → Tested barge u r → r ≡ Err x → Refused q ed (Err (Reading x)) s
+        go (Ok v) (Tested.passes e f) c = let z : ◌≡◌ {A = ℕ} 0 1 = cc in absurd (omega arith)
+        go (Err y) (Tested.long e) c = absurd (false≢true (sym short-text ∙ e))
+        go (Err y) (Tested.ill_formed e f) c =
             let is : unread_in (malformed_by u) ≡ x = cc in
             let g = gate-malformed (sizes q) t ed in_order short-text (omega (arith, es)) (omega (arith, es)) f in
-            subst (λ (y : Unread). Refused q ed (answer.Refused y) s) is
+            subst (λ (y : Unread). Refused q ed (Err (Reading y)) s) is
             (unread-edit (unread_in (malformed_by u)) s (rw ok.spare-is (shut_post q ed (late (reading (malformed_by u))) ok.ranged.fit g)))
 
-    module _ (formed : test_of barge (take size s) ≡ tests.Passes) where
+    module _ (formed : test_of barge (take size s) ≡ Ok tt) where
       open_gate : gate (sizes q) t ed ≡ none
       open_gate = gate-clear (sizes q) t ed in_order short-text (omega (arith, es)) (omega (arith, es)) (test_passes barge u (ap (test_of barge) (sym held) ∙ formed)).1
 
@@ -224,16 +234,20 @@ module _ (q : Lent) (ed : Edit) where
       free-line (Fails f) k = failure (record_of f)
       free-line (AtLine number l) k = limit number l k
 
-      pub refused-edit : (r : PlanAnswer) → PlanIs pg ed r → OneOf (1 ∷ 2 ∷ 3 ∷ 4 ∷ []) (tag_of planned.the_type r) → Refused q ed (refusal_by r) s
+      short-edit : (b : Buffer) (least : ℕ) → (b ≡ Lines) ⊎ (b ≡ Tokens) → OnPaper pg ed (short (buffer_number b) least) → Refused q ed (Err (Short b least)) s
       unfolding reply_of numbered header_after
-      refused-edit (plan.Writes p) v k = absurd (⊎_elim (λ h. omega arith) (⊎_elim (λ h. omega arith) (⊎_elim (λ h. omega arith) (λ h. omega arith))) k)
-      refused-edit (plan.Refused x) v k = unread-edit x s (late-edit (reading (unread_of x)) (free-line x v.0) v.1)
-      refused-edit (plan.ShortLines least) v k = late-edit (short lines_buffer least) (few_lines least) v
-      refused-edit (plan.ShortTokens least) v k = late-edit (short tokens_buffer least) (few_tokens least) v
-      refused-edit plan.Unfit v k = late-edit unfit stale v
+      short-edit b least (inl e) = rw e (late-edit (short lines_buffer least) (few_lines least))
+      short-edit b least (inr e) = rw e (late-edit (short tokens_buffer least) (few_tokens least))
+
+      pub refused-edit : (r : refusal.Refusal) → PlanIs pg ed (Err r) → Refused q ed (Err r) s
+      unfolding reply_of numbered header_after
+      refused-edit (Reading x) v = unread-edit x s (late-edit (reading (unread_of x)) (free-line x v.0) v.1)
+      refused-edit (Short b least) v = short-edit b least v.0 v.1
+      refused-edit Outside v = absurd v.0
+      refused-edit Unfit v = late-edit unfit stale v.1
 
       -- An acceptance.
-      module _ {p : Plan} (v : PlanIs pg ed (plan.Writes p)) where
+      module _ {p : Plan} (v : PlanIs pg ed (Ok p)) where
         abbrev pl : Planned u lines m k p
         pl = v.0
 
@@ -304,13 +318,13 @@ module _ (q : Lent) (ed : Edit) where
         unfolding stored record_tests refused_if first_of unless read_lines recorded_by
         on-paper f =
             let bh = behind barge_line t (page_records pg) (fresh_inverse t (page_records pg) f).2 in
-            sym (ap (λ (x : Reading). stored (sizes q) (reread_count barge_line t ed) (recorded_by x)) (mends bh).reads-are ∙ ap (λ (x : Records). stored (sizes q) (reread_count barge_line t ed) (recorded x)) (sym (records-are bh))
+            sym (ap (λ (x : RulesReading.Reading). stored (sizes q) (reread_count barge_line t ed) (recorded_by x)) (mends bh).reads-are ∙ ap (λ (x : Records). stored (sizes q) (reread_count barge_line t ed) (recorded x)) (sym (records-are bh))
             ∙ rw (le-ltb (length lines) (line_need m') need_lines, le-ltb (length tokens) (token_need k') ro.token-room) (ap (done r) (mends bh).count))
 
         -- the answer and the buffers as the code has them
-        pub accept_edit : {r' : EditAnswer} {text' lines' tokens' : List ℕ} → r' ≡ Edited size m' k' p.count → text' ≡ sets text a (drop a (take size s))
+        pub accept_edit : {e : Edited} {text' lines' tokens' : List ℕ} → e ≡ edited_by size m k p → text' ≡ sets text a (drop a (take size s))
             → lines' ≡ sets lines (line_size * p.i) (line_tail (take size s) lines m p) → tokens' ≡ sets tokens (token_size * p.first) (token_tail (take size s) lines tokens k p)
-            → Answered q ed r' text' s lines' tokens'
+            → Answered q ed (Ok e) text' s lines' tokens'
         unfolding reply_of after header_after
         accept_edit {text' = text'} {lines' = lines'} {tokens' = tokens'} er et el ek =
             let free : Free q u (done r p.count) = acceptance r p.count es (omega (arith, pl.i-le, pl.lines-le, pl.m-le)) (omega (arith, ro.few)) lines_long tokens-long need_lines ro.token-room in
@@ -320,7 +334,7 @@ module _ (q : Lent) (ed : Edit) where
             el ∙ ap (λ (x : List ℕ). sets lines (line_size * p.i) (line_tail x lines m p)) held ∙ run-over lines (line_size * p.i) (line_tail u lines m p) (omega (arith, tail-lines, ro.line-room)) in
             let ek' : tokens' ≡ overwrite r.tokens tokens =
             ek ∙ ap (λ (x : List ℕ). sets tokens (token_size * p.first) (token_tail x lines tokens k p)) held ∙ run-over tokens (token_size * p.first) (token_tail u lines tokens k p) (omega (arith, tail-tokens, ro.token-room)) in
-            rw er (subst (λ (y : Lent). EditPost q ed (edit_numbers (Edited size m' k' p.count)) y)
+            rw er (subst (λ (y : Lent). EditPost q ed (edit_numbers (Ok (edited_by size m k p))) y)
             (λ x. lent (header size m' k') (sym et' x) (sym ok.spare-is x) (sym el' x) (sym ek' x)) post)
 
 -- a length within the limit is not capped

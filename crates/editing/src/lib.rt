@@ -3,110 +3,96 @@
 
 ghost use Rattle.std.specs.Prelude.{◌≡◌, true, ◌+◌, ◌-◌, ◌*◌, ◌≤◌, length, take, drop};
 ghost use Rattle.std.proofs.lemmas.List.Edits.{sets};
-ghost use Rattle.rules.specs.Records.{line_size, token_size, header};
+ghost use Rattle.rules.specs.Records.{line_size, token_size};
 ghost use Rattle.rules.specs.Page.{fits};
 ghost use Rattle.rules.specs.StopRule.{edited};
 ghost use Rattle.rules.specs.Edit.{EditPost};
-ghost use Rattle.header.specs.Pages.{page};
-ghost use Rattle.plans.specs.Plans.{edit_of, lines_after, tokens_after, Planned, Roomy};
+ghost use Rattle.header.specs.Pages.{header_of, page};
+ghost use Rattle.plans.specs.Plans.{lent_edit, lines_after, tokens_after, Planned, Roomy};
 ghost use Rattle.writing.specs.Writes.{line_tail, token_tail};
-ghost use Rattle.editing.specs.Answers.{edit_numbers, answer_by, refusal_by, lent, lent_after};
+ghost use Rattle.editing.specs.Answers.{edit_numbers, edited_by, lent, lent_after};
 
-// The answer of `edit`: bytes, lines, tokens and the re-read count; or why the edited text is refused by itself, 5 for one of four
-// buffers with its least length, 6 or 7.
+use header::{Header, Page};
+use plans::{Edit, Plan};
+use refusals::Refusal;
+
+// An accepted edit: how many bytes, lines and tokens the page then has, and how many lines were read again.
 #[derive(Clone, Copy)]
-pub enum EditAnswer {
-    Edited(usize, usize, usize, usize),
-    Refused(refusals::Unread),
-    ShortText(usize),
-    ShortSpare(usize),
-    ShortLines(usize),
-    ShortTokens(usize),
-    Outside,
-    Unfit,
+pub struct Edited {
+    pub bytes: usize,
+    pub lines: usize,
+    pub tokens: usize,
+    pub reread: usize,
 }
 
 // The answer of an edit that is written by this plan.
-fn answer_of(size: usize, m: usize, k: usize, p: plans::Plan) -> EditAnswer
+fn edited_by(size: usize, m: usize, k: usize, p: Plan) -> Edited
     requires m_bound { (m ≤ 1_048_576) × ((p.j ≤ m + 1) × (p.from ≤ k)) }
     requires bound { (1 ≤ lines_after p m) × ((lines_after p m ≤ 4_194_304) × (tokens_after p k ≤ 2_097_152)) }
-    ensures { result ≡ answer_by size m k p }
+    ensures { result ≡ edited_by size m k p }
 {
     let line_records = p.i + p.lines + (m + 1 - p.j);
     let token_records = p.first + p.tokens + (k - p.from);
-    EditAnswer::Edited(size, line_records - 1, token_records, p.count)
+    Edited {
+        bytes: size,
+        lines: line_records - 1,
+        tokens: token_records,
+        reread: p.count,
+    }
 }
 
-// The records and the text of an accepted edit are written.
+// The records and the text of an accepted edit are written. The four buffers stay parameters of their own, here and below: in a struct of `&mut`
+// fields a contract would name what is behind each by its place in nested pairs, and promise no more.
 fn write_edit(
+    head: Header,
     text: &mut [u8],
     spare: &[u8],
     lines: &mut [u32],
     tokens: &mut [u32],
-    m: usize,
-    k: usize,
     a: usize,
     size: usize,
-    p: plans::Plan,
-) -> EditAnswer
+    p: Plan,
+) -> Edited
     requires a_le_size { (a ≤ size) × ((size ≤ length text.old) × ((size ≤ length spare.now) × (size ≤ 1_048_576))) }
-    requires m_in_bounds { (line_size * (m + 1) ≤ length lines.old) × (token_size * k ≤ length tokens.old) }
-    requires planned { Planned (take size spare.now) lines.old m k p }
-    requires roomy { Roomy m k (length lines.old) (length tokens.old) p }
-    ensures value { result ≡ answer_by size m k p }
+    requires m_in_bounds { (line_size * (head.m + 1) ≤ length lines.old) × (token_size * head.k ≤ length tokens.old) }
+    requires planned { Planned (take size spare.now) lines.old head.m head.k p }
+    requires roomy { Roomy head.m head.k (length lines.old) (length tokens.old) p }
+    ensures value { result ≡ edited_by size head.m head.k p }
     ensures text_after { text.new ≡ sets text.old a (drop a (take size spare.now)) }
-    ensures lines_after { lines.new ≡ sets lines.old (line_size * p.i) (line_tail (take size spare.now) lines.old m p) }
-    ensures tokens_after { tokens.new ≡ sets tokens.old (token_size * p.first) (token_tail (take size spare.now) lines.old tokens.old k p) }
+    ensures lines_after { lines.new ≡ sets lines.old (line_size * p.i) (line_tail (take size spare.now) lines.old head.m p) }
+    ensures tokens_after { tokens.new ≡ sets tokens.old (token_size * p.first) (token_tail (take size spare.now) lines.old tokens.old head.k p) }
 {
+    let m = head.m as usize;
+    let k = head.k as usize;
     writing::write_records(&spare[..size], lines, tokens, m, k, p);
     copies::copy_back(spare, text, a, size);
-    answer_of(size, m, k, p)
-}
-
-// What an edit answers where its plan is refused. It is not asked of a plan, which is no refusal.
-fn refusal_of(planned: plans::PlanAnswer) -> EditAnswer
-    ensures { result ≡ refusal_by planned }
-{
-    match planned {
-        plans::PlanAnswer::Refused(u) => EditAnswer::Refused(u),
-        plans::PlanAnswer::ShortLines(least) => EditAnswer::ShortLines(least),
-        plans::PlanAnswer::ShortTokens(least) => EditAnswer::ShortTokens(least),
-        plans::PlanAnswer::Unfit => EditAnswer::Unfit,
-        plans::PlanAnswer::Writes(_) => EditAnswer::Unfit,
-    }
+    edited_by(size, m, k, p)
 }
 
 // An edit whose range is proper and whose text has room: the spare gets the edited text, then it is read.
 pub fn edit_text(
-    n: u32,
-    m: u32,
-    k: u32,
+    head: Header,
     text: &mut [u8],
     spare: &mut [u8],
     lines: &mut [u32],
     tokens: &mut [u32],
-    a: usize,
-    b: usize,
-    w: &[u8],
+    edit: Edit,
     size: usize,
-) -> EditAnswer
-    requires tokens_value { fits (page n m k text.old lines.old tokens.old) ≡ true }
-    requires a_le_b { (a ≤ b) × ((b ≤ n) × (size ≡ length (edited (take n text.old) (edit_of a b w.now)))) }
+) -> Result<Edited, Refusal>
+    requires page_fits { fits (page head.n head.m head.k text.old lines.old tokens.old) ≡ true }
+    requires in_range { (edit.a ≤ edit.b) × ((edit.b ≤ head.n) × (size ≡ length (edited (take head.n text.old) (lent_edit edit)))) }
     requires size_bound { (size ≤ 1_048_576) × ((size ≤ length text.old) × (size ≤ length spare.old)) }
-    ensures { EditPost (lent (header n m k) text.old spare.old lines.old tokens.old) (edit_of a b w.now) (edit_numbers result) (lent_after (header n m k) (edit_numbers result) text.new spare.new lines.new tokens.new) }
+    ensures { EditPost (lent (header_of head) text.old spare.old lines.old tokens.old) (lent_edit edit.entry) (edit_numbers result) (lent_after (header_of head) (edit_numbers result) text.new spare.new lines.new tokens.new) }
 {
-    copies::splice(text, spare, n as usize, a, b, w);
-    if let refusals::TextTest::Refused(u) = refusals::test_text(
-        refusals::barge_limits(),
-        &spare[..size],
-    ) {
-        return EditAnswer::Refused(u);
-    }
-    let planned = planning::plan_edit(n, m, k, text, lines, tokens, &spare[..size], a, b, w);
-    match planned {
-        plans::PlanAnswer::Writes(p) => write_edit(
-            text, spare, lines, tokens, m as usize, k as usize, a, size, p,
-        ),
-        _ => refusal_of(planned),
-    }
+    copies::splice(text, spare, head.n as usize, edit.a, edit.b, edit.w);
+    refusals::test_text(refusals::barge_limits(), &spare[..size])?;
+    let page = Page {
+        head,
+        text: &*text,
+        lines: &*lines,
+        tokens: &*tokens,
+    };
+    let plan = planning::plan_edit(page, &spare[..size], edit)?;
+    let done = write_edit(head, text, spare, lines, tokens, edit.a, size, plan);
+    Ok(done)
 }

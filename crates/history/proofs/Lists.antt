@@ -1,18 +1,17 @@
 -- A list of edits, one more each time.
 -- Assumes nothing.
-use Prim.Native.Nat.{ℕ, zero, suc, ◌+◌, ◌-◌, ◌≤◌, ◌<◌, min}
+use Prim.Native.Nat.{ℕ, ◌+◌, ◌-◌, ◌≤◌, ◌<◌}
 use mathlib.Core.Path.{◌≡◌, refl, sym, ap, subst, ◌∙◌}
 use mathlib.Core.List.{List, [], ◌∷◌, ◌++◌}
 use native.Mathlib.Omega.{arith}
 use mathlib.Core.Logic.{⊎_elim}
-use native.Mathlib.Nat.{add-zero, suc-add, add-suc, eq-zero-or-pos}
-use native.Mathlib.Numerals.{add-one}
-use lib.ListN.{length, take, drop, length-drop, drop_of_length-le, replicate}
-use lib.Seq.{take_all, take-nil}
-use Rattle.laws.specs.Blocks.{table}
+use native.Mathlib.Nat.{eq-zero-or-pos}
+use lib.ListN.{length, take, replicate}
 use Rattle.rules.specs.Lists.{overwrite}
 use Rattle.rules.specs.Limits.{barge_line}
-use Rattle.rules.specs.Replies.{Reply}
+use Rattle.std.specs.Prelude.{Result, Ok, Err, get_or}
+use Rattle.std.proofs.lemmas.List.{take_more}
+use Rattle.rules.specs.Replies.{Reply, numbered, numbered_unread, failure_words}
 use Rattle.rules.specs.Records.{line_size, Header, header}
 use Rattle.rules.specs.Page.{Lent, Sizes, sizes, header_after, fresh_reply, fresh_lines, fresh_lent}
 use Rattle.rules.specs.StopRule.{Edit}
@@ -20,47 +19,23 @@ use Rattle.rules.specs.Edit.{EditPost}
 use Rattle.rules.specs.History.{Chain, none, call, Holds, Agrees}
 use Rattle.rules.proofs.BoundLaws.{fresh_small}
 use Rattle.rules.proofs.PageLaws.{unread-kept, fresh_inverse}
-use Rattle.refusals.specs.Unreads.{unread_of}
+use Rattle.refusals.specs.Unreads.{unread_of, refusal_of}
+use Rattle.refusals.specs.Replies.{reply_of}
+use Rattle.refusals.specs.declared.Unread.TheVariants.{TooLong, Malformed, Fails, AtLine}
+use Rattle.refusals.specs.declared.Refusal.{Refusal}
+use Rattle.refusals.specs.declared.Refusal.TheVariants.{Reading, Short, Outside, Unfit}
 use Rattle.editing.specs.Answers.{edit_numbers, lent, lent_after}
-use Rattle.editing.specs.declared.EditAnswer.{EditAnswer}
-use Rattle.editing.specs.declared.EditAnswer.TheVariants.{Edited, Refused, ShortText, ShortSpare, ShortLines, ShortTokens, Outside, Unfit}
-use Rattle.fresh_page.proofs.FreshPages.{fresh_long}
+use Rattle.editing.specs.declared.Edited.{Edited}
+use Rattle.fresh_page.specs.Answers.{fresh_values}
+use Rattle.fresh_page.proofs.FreshPages.{fresh_short, fresh_long}
 use Rattle.page.proofs.PageHistory.{fresh_post, history}
 use Rattle.planning.proofs.Plans.{short-text}
-use Rattle.history.specs.Lists.{edit_at, edits_of, last_reply, SmallAnswer, Happened}
+use Rattle.history.specs.Lists.{listed_edit, edits_of, last_reply, SmallAnswer, Happened}
+use Rattle.history.specs.declared.Listed.{Listed}
 
--- Bytes from `from` to `to`, cut at the end of what is lent.
-pub clipped : (bytes : List ℕ) (from to end start : ℕ) → end ≡ min to (length bytes) → start ≡ min from end
-    → take (end - start) (drop start bytes) ≡ take (to - from) (drop from bytes)
-clipped bytes from to end start ee es =
-    ⊎_elim (λ (x : from - end ≡ 0). inside (omega arith)) (λ (x : 0 < from - end). outside (omega arith)) (eq-zero-or-pos (from - end))
-  where
-    whole : from ≤ length bytes → (n : ℕ) → length bytes - from ≤ n → take n (drop from bytes) ≡ drop from bytes
-    whole h n k = take_all n (drop from bytes) (omega (arith, length-drop from bytes))
-
-    inside : from ≤ end → take (end - start) (drop start bytes) ≡ take (to - from) (drop from bytes)
-    inside h =
-        let s : start ≡ from = omega arith in
-        ap (λ (x : ℕ). take (end - x) (drop x bytes)) s
-        ∙ ⊎_elim (λ (x : to - length bytes ≡ 0). let e : end ≡ to = omega arith in ap (λ (y : ℕ). take (y - from) (drop from bytes)) e)
-        (λ (x : 0 < to - length bytes). whole (omega arith) (end - from) (omega arith) ∙ sym (whole (omega arith) (to - from) (omega arith))) (eq-zero-or-pos (to - length bytes))
-
-    outside : end < from → take (end - start) (drop start bytes) ≡ take (to - from) (drop from bytes)
-    outside h =
-        let z : end - start ≡ 0 = omega arith in
-        ap (λ (x : ℕ). take x (drop start bytes)) z
-        ∙ ⊎_elim (λ (x : to - from ≡ 0). ap (λ (y : ℕ). take y (drop from bytes)) (sym x))
-        (λ (x : 0 < to - from). sym (ap (take (to - from)) (drop_of_length-le bytes {i = from} (omega arith)) ∙ take-nil (to - from))) (eq-zero-or-pos (to - from))
-
--- One more.
-
-table-last : {A : Type 0} (f : ℕ → A) (i n : ℕ) → table f i (suc n) ≡ table f i n ++ (f (i + n) ∷ [])
-table-last f i zero = ap (λ (x : ℕ). f x ∷ []) (sym (add-zero i))
-table-last f i (suc n) = ap (λ r. f i ∷ r) (table-last f (suc i) n ∙ ap (λ (x : ℕ). table f (suc i) n ++ (f x ∷ [])) (suc-add i n ∙ sym (add-suc i n)))
-
-edits_more : (edits bytes : List ℕ) (i : ℕ) → edits_of edits bytes (i + 1) ≡ edits_of edits bytes i ++ (edit_at edits bytes i ∷ [])
-edits_more edits bytes i =
-    ap (table (edit_at edits bytes) 0) (add-one i) ∙ table-last (edit_at edits bytes) 0 i ∙ ap (λ (x : ℕ). edits_of edits bytes i ++ (edit_at edits bytes x ∷ [])) (omega arith)
+edits_more : (edits : List Listed) (bytes : List ℕ) (e : Listed) → edits_of (edits ++ (e ∷ [])) bytes ≡ edits_of edits bytes ++ (listed_edit bytes e ∷ [])
+edits_more [] bytes e = refl
+edits_more (x ∷ xs) bytes e = ap (λ (ys : List Edit). listed_edit bytes x ∷ ys) (edits_more xs bytes e)
 
 chain_more : {P C R : Type 0} {Post : P → C → R → P → Type 0} {p q z : P} {cs : List C} {rs : List R} {c : C} {r : R}
     → Chain Post p cs rs q → Post q c r z → Chain Post p (cs ++ (c ∷ [])) (rs ++ (r ∷ [])) z
@@ -73,38 +48,58 @@ last_more (x ∷ []) r = refl
 last_more (x ∷ y ∷ rs) r = last_more (y ∷ rs) r
 
 -- The header of an accepted edit fits in words.
-small-held : (z : Sizes) (t : List ℕ) (h : Header) (text spare lines tokens : List ℕ) (r : EditAnswer) → Holds z t (lent_after h (edit_numbers r) text spare lines tokens) → SmallAnswer r
+small-held : (z : Sizes) (t : List ℕ) (h : Header) (text spare lines tokens : List ℕ) (r : Result Edited Refusal) → Holds z t (lent_after h (edit_numbers r) text spare lines tokens) → SmallAnswer r
 unfolding header_after
-small-held z t h text spare lines tokens (Edited n m k count) x =
+small-held z t h text spare lines tokens (Ok e) x =
     let v = fresh_inverse t _ x.records-are in
     let s = fresh_small barge_line (omega arith) t _ (short-text t v.0) v.2 in
     (omega (arith, s.n-le), omega (arith, s.n-le, s.m-le), omega (arith, s.n-le, s.k-le))
-small-held z t h text spare lines tokens (Refused u) x = tt
-small-held z t h text spare lines tokens (ShortText n) x = tt
-small-held z t h text spare lines tokens (ShortSpare n) x = tt
-small-held z t h text spare lines tokens (ShortLines n) x = tt
-small-held z t h text spare lines tokens (ShortTokens n) x = tt
-small-held z t h text spare lines tokens Outside x = tt
-small-held z t h text spare lines tokens Unfit x = tt
+small-held z t h text spare lines tokens (Err r) x = tt
+
+-- The fresh page has a line record's room, or it is refused.
+refusal-long : (r : Refusal) → length (numbered (refusal_of r)) ≡ 4 → ⊥
+unfolding numbered numbered_unread failure_words
+refusal-long (Reading (TooLong number n)) e = absurd (omega (arith, e))
+refusal-long (Reading (Malformed n)) e = absurd (omega (arith, e))
+refusal-long (Reading (Fails f)) e = absurd (omega (arith, e))
+refusal-long (Reading (AtLine number l)) e = absurd (omega (arith, e))
+refusal-long (Short b n) e = absurd (omega (arith, e))
+refusal-long Outside e = absurd (omega (arith, e))
+refusal-long Unfit e = absurd (omega (arith, e))
+
+module _ (lines : List ℕ) where
+  pub fresh_refused : (r : Refusal) → numbered (refusal_of r) ≡ fresh_reply (length lines) → line_size ≤ length lines → ⊥
+  fresh_refused r e h =
+      let f = (fresh_long lines h (overwrite (replicate line_size 0) lines) refl).0 in
+      refusal-long r (ap length (e ∙ sym f))
+
+  pub fresh_roomy : (r : Result (Unit {0}) Refusal) → ((u : Refusal) → r ≡ Err u → ⊥) → reply_of fresh_values r ≡ fresh_reply (length lines) → line_size ≤ length lines
+  unfolding numbered
+  fresh_roomy (Err u) x e = absurd (x u refl)
+  fresh_roomy (Ok v) x e =
+      ⊎_elim (λ (h : line_size - length lines ≡ 0). omega arith)
+      (λ (h : 0 < line_size - length lines). let f = (fresh_short lines (omega arith)).0 in absurd (omega (arith, ap length (e ∙ sym f)))) (eq-zero-or-pos (line_size - length lines))
 
 -- The edits so far, from the fresh page with these line words.
-module _ (text₀ spare₀ fresh₀ tokens₀ edits bytes : List ℕ) where
+module _ (text₀ spare₀ fresh₀ tokens₀ bytes : List ℕ) where
   abbrev first : Lent
   first = lent (header 0 0 0) text₀ spare₀ fresh₀ tokens₀
 
-  pub record SoFar (i : ℕ) (reply : Reply) (last : Lent) : Type 0 where
+  pub record SoFar (edits : List Listed) (reply : Reply) (last : Lent) : Type 0 where
     pub replies : List Reply
-    pub chain : Chain EditPost first (edits_of edits bytes i) replies last
+    pub chain : Chain EditPost first (edits_of edits bytes) replies last
     pub last-is : reply ≡ last_reply replies
 
-  pub none_yet : SoFar 0 (0 ∷ 0 ∷ 0 ∷ 0 ∷ 0 ∷ []) first
+  pub none_yet : SoFar [] (0 ∷ 0 ∷ 0 ∷ 0 ∷ 0 ∷ []) first
   none_yet = record { replies = []; chain = none; last-is = refl }
 
-  pub one_more : {i : ℕ} {reply : Reply} {last : Lent} → SoFar i reply last → (r : Reply) (q : Lent) → EditPost last (edit_at edits bytes i) r q → SoFar (i + 1) r q
-  one_more {i} v r q post =
+  pub one_more : {reply : Reply} {last : Lent} (edits : List Listed) (i : ℕ) (e : Listed) → i < length edits → SoFar (take i edits) reply last → (r : Reply) (q : Lent)
+      → EditPost last (listed_edit bytes (get_or edits i e)) r q → SoFar (take (i + 1) edits) r q
+  one_more edits i e h v r q post =
+      let more = ap (λ (es : List Listed). edits_of es bytes) (take_more edits i e h) ∙ edits_more (take i edits) bytes (get_or edits i e) in
       record {
         replies = v.replies ++ (r ∷ []);
-        chain = subst (λ (es : List Edit). Chain EditPost first es (v.replies ++ (r ∷ [])) q) (sym (edits_more edits bytes i)) (chain_more v.chain post);
+        chain = subst (λ (es : List Edit). Chain EditPost first es (v.replies ++ (r ∷ [])) q) (sym more) (chain_more v.chain post);
         last-is = sym (last_more v.replies r);
       }
 
@@ -119,33 +114,24 @@ module _ (text₀ spare₀ fresh₀ tokens₀ edits bytes : List ℕ) where
     unfolding header_after
     first-is = (fresh_post (header 0 0 0) text₀ spare₀ lines₀ tokens₀ fresh₀ (0 ∷ 0 ∷ 0 ∷ 0 ∷ []) fresh_reply_lem is-fresh).lent_is
 
-    agreed : {i : ℕ} {reply : Reply} {last : Lent} (v : SoFar i reply last) → Agrees (sizes lent₀) [] (fresh_lent lent₀) (edits_of edits bytes i) v.replies last
+    agreed : {edits : List Listed} {reply : Reply} {last : Lent} (v : SoFar edits reply last) → Agrees (sizes lent₀) [] (fresh_lent lent₀) (edits_of edits bytes) v.replies last
     unfolding header_after
-    agreed {i} {reply} {last} v =
-        subst (λ (x : Lent). Agrees (sizes lent₀) [] x (edits_of edits bytes i) v.replies last) first-is
+    agreed {edits} {reply} {last} v =
+        subst (λ (x : Lent). Agrees (sizes lent₀) [] x (edits_of edits bytes) v.replies last) first-is
         ((history (header 0 0 0) text₀ spare₀ lines₀ tokens₀ fresh₀ (0 ∷ 0 ∷ 0 ∷ 0 ∷ []) fresh_reply_lem is-fresh long).1
-        (edits_of edits bytes i) v.replies last v.chain)
+        (edits_of edits bytes) v.replies last v.chain)
 
-    pub happened : {i : ℕ} {reply : Reply} {last : Lent} → SoFar i reply last → Happened lent₀ (edits_of edits bytes i) reply last
+    pub happened : {edits : List Listed} {reply : Reply} {last : Lent} → SoFar edits reply last → Happened lent₀ (edits_of edits bytes) reply last
     happened v = record { replies = v.replies; agrees = agreed v; last-is = v.last-is }
 
-    pub small-last : {i : ℕ} (h : Header) (text spare lines tokens : List ℕ) (r : EditAnswer) → SoFar i (edit_numbers r) (lent_after h (edit_numbers r) text spare lines tokens) → SmallAnswer r
-    small-last {i} h text spare lines tokens r v =
+    pub small-last : {edits : List Listed} (h : Header) (text spare lines tokens : List ℕ) (r : Result Edited Refusal) → SoFar edits (edit_numbers r) (lent_after h (edit_numbers r) text spare lines tokens) → SmallAnswer r
+    small-last h text spare lines tokens r v =
         small-held (sizes lent₀) _ h text spare lines tokens r (agreed v).holds
 
--- The header after an answer.
-module _ (n m k : ℕ) where
-  pub head-edited : (last : EditAnswer) (n' m' k' count : ℕ) → last ≡ Edited n' m' k' count → header n' m' k' ≡ header_after (header n m k) (edit_numbers last)
-  unfolding header_after
-  head-edited last n' m' k' count e = ap (λ (r : EditAnswer). header_after (header n m k) (edit_numbers r)) (sym e)
-
-  pub head-kept : (last : EditAnswer) → ((n' m' k' count : ℕ) → last ≡ Edited n' m' k' count → ⊥) → header n m k ≡ header_after (header n m k) (edit_numbers last)
-  unfolding header_after
-  head-kept (Edited n' m' k' count) x = absurd (x n' m' k' count refl)
-  head-kept (Refused u) x = sym (unread-kept (header n m k) (unread_of u))
-  head-kept (ShortText l) x = refl
-  head-kept (ShortSpare l) x = refl
-  head-kept (ShortLines l) x = refl
-  head-kept (ShortTokens l) x = refl
-  head-kept Outside x = refl
-  head-kept Unfit x = refl
+-- The header after a refusal.
+pub head-kept : (h : Header) (r : Refusal) → h ≡ header_after h (numbered (refusal_of r))
+unfolding header_after numbered
+head-kept h (Reading u) = sym (unread-kept h (unread_of u))
+head-kept h (Short b n) = refl
+head-kept h Outside = refl
+head-kept h Unfit = refl

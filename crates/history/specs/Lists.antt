@@ -1,24 +1,21 @@
 -- A lent list of edits, and the last reply.
 -- Assumes nothing.
-use Rattle.std.specs.Prelude.{ℕ, ◌+◌, ◌-◌, ◌*◌, ◌≤◌, List, [], ◌∷◌, get_or, take, drop, ◌≡◌}
-use Rattle.laws.specs.Blocks.{table}
+use Rattle.std.specs.Prelude.{ℕ, ◌-◌, ◌≤◌, List, [], ◌∷◌, map, take, drop, ◌≡◌, Result, Ok, Err}
 use Rattle.rules.specs.Replies.{Reply, accepted}
 use Rattle.rules.specs.Page.{Lent, sizes, fresh_lent}
 use Rattle.rules.specs.StopRule.{Edit}
 use Rattle.rules.specs.History.{Agrees}
+use Rattle.refusals.specs.declared.Refusal.{Refusal}
 use Rattle.plans.specs.Plans.{edit_of}
-use Rattle.editing.specs.declared.EditAnswer.{EditAnswer}
-use Rattle.editing.specs.declared.EditAnswer.TheVariants.{Edited, Refused, ShortText, ShortSpare, ShortLines, ShortTokens, Outside, Unfit}
+use Rattle.editing.specs.declared.Edited.{Edited}
+use Rattle.history.specs.declared.Listed.{Listed}
 
--- edit i of a list with four numbers for each: a, b, and the range of the lent bytes that is w
-abbrev pub edit_at : (edits bytes : List ℕ) → (i : ℕ) → Edit
-edit_at edits bytes i =
-    edit_of (get_or edits (4 * i) 0) (get_or edits (4 * i + 1) 0)
-    (take (get_or edits (4 * i + 3) 0 - get_or edits (4 * i + 2) 0) (drop (get_or edits (4 * i + 2) 0) bytes))
+-- an edit of a list: a, b, and the range of the lent bytes that is w
+abbrev pub listed_edit : (bytes : List ℕ) → Listed → Edit
+listed_edit bytes e = edit_of e.a e.b (take (e.end - e.start) (drop e.start bytes))
 
--- the first `count` edits
-abbrev pub edits_of : (edits bytes : List ℕ) → (count : ℕ) → List Edit
-edits_of edits bytes count = table (edit_at edits bytes) 0 count
+abbrev pub edits_of : List Listed → (bytes : List ℕ) → List Edit
+edits_of edits bytes = map (listed_edit bytes) edits
 
 -- the last reply; without edits, that of an edit of nothing
 abbrev pub last_reply : List Reply → Reply
@@ -27,15 +24,9 @@ last_reply (r ∷ []) = r
 last_reply (r ∷ s ∷ rs) = last_reply (s ∷ rs)
 
 -- an acceptance whose header fits in words
-abbrev pub SmallAnswer : EditAnswer → Type 0
-SmallAnswer (Edited n m k count) = (n ≤ 4_294_967_295) × (m ≤ 4_294_967_295) × (k ≤ 4_294_967_295)
-SmallAnswer (Refused u) = Unit {0}
-SmallAnswer (ShortText n) = Unit {0}
-SmallAnswer (ShortSpare n) = Unit {0}
-SmallAnswer (ShortLines n) = Unit {0}
-SmallAnswer (ShortTokens n) = Unit {0}
-SmallAnswer Outside = Unit {0}
-SmallAnswer Unfit = Unit {0}
+abbrev pub SmallAnswer : Result Edited Refusal → Type 0
+SmallAnswer (Ok e) = (e.bytes ≤ 4_294_967_295) × (e.lines ≤ 4_294_967_295) × (e.tokens ≤ 4_294_967_295)
+SmallAnswer (Err r) = Unit {0}
 
 -- the history on paper, from the empty text and the fresh page of what was lent: with its replies, the last of which is this one, and what
 -- is lent at the end

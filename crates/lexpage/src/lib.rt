@@ -19,6 +19,9 @@ ghost use Rattle.plans.specs.Plans.{edit_of};
 ghost use Rattle.editing.specs.Answers.{lent};
 ghost use Rattle.lexpage.specs.Edits.{EditReplied};
 
+use header::{Header, Page};
+use plans::Edit;
+
 // A reading of a text by itself.
 pub fn lexpage_read(
     text: &[u8],
@@ -39,7 +42,7 @@ pub fn lexpage_panel_column(text: &[u8], offset: usize, reply: &mut [u64; 16]) -
     ensures value { result ≡ length (column_reply text.now offset) }
     ensures reply_after { reply.new ≡ sets reply.old 0 (column_reply text.now offset) }
 {
-    text_replies::put_column(reply, columns::panel_column(text, offset))
+    text_replies::put_number(reply, columns::panel_column(text, offset))
 }
 
 // The value of a byte literal.
@@ -64,7 +67,7 @@ pub fn lexpage_report(text: &[u8], out: &mut [u8], reply: &mut [u64; 16]) -> u64
     ensures reply_after { reply.new ≡ sets reply.old 0 (report_into text.now out.old).reply }
     ensures out_after { out.new ≡ (report_into text.now out.old).out }
 {
-    text_replies::put_report(reply, report::report(text, out))
+    text_replies::put_number(reply, report::report(text, out))
 }
 
 // Where the text of token i of a page stands.
@@ -82,10 +85,13 @@ pub fn lexpage_token_text(
     ensures value { result ≡ length (token_text_reply (page n m k text.now lines.now tokens.now) i (length names.now)) }
     ensures reply_after { reply.new ≡ sets reply.old 0 (token_text_reply (page n m k text.now lines.now tokens.now) i (length names.now)) }
 {
-    token_replies::put_part(
-        reply,
-        token_text::token_part(n, m, k, text, lines, tokens, i, names),
-    )
+    let page = Page {
+        head: Header { n, m, k },
+        text,
+        lines,
+        tokens,
+    };
+    token_replies::put_part(reply, token_text::token_part(page, i, names))
 }
 
 // One step of a walk over the token words.
@@ -121,10 +127,9 @@ pub fn lexpage_edit(
 ) -> u64
     ensures { EditReplied (lent (header n m k) text.old spare.old lines.old tokens.old) (edit_of a b w.now) reply.old result reply.new text.new spare.new lines.new tokens.new }
 {
-    page_replies::put_edit(
-        reply,
-        page::edit(n, m, k, text, spare, lines, tokens, a, b, w),
-    )
+    let head = Header { n, m, k };
+    let edit = Edit { a, b, w };
+    page_replies::put_edit(reply, page::edit(head, text, spare, lines, tokens, edit))
 }
 
 // Whether a page's header and records are those of a fresh reading.
@@ -140,5 +145,11 @@ pub fn lexpage_check(
     ensures value { result ≡ length (check_reply (page n m k text.now lines.now tokens.now)) }
     ensures reply_after { reply.new ≡ sets reply.old 0 (check_reply (page n m k text.now lines.now tokens.now)) }
 {
-    page_replies::put_check(reply, checking::check(n, m, k, text, lines, tokens))
+    let page = Page {
+        head: Header { n, m, k },
+        text,
+        lines,
+        tokens,
+    };
+    page_replies::put_check(reply, checking::check(page))
 }

@@ -10,14 +10,16 @@ use lib.Dec.{ltb}
 use lib.ListN.{length, get_or, take, drop, length-append, length-drop, length-take, drop_of_length-le, take-append-drop, length-replicate}
 use lib.Seq.{take-take, take_all, take-append-le, length-take-le}
 use borrow.Author.Tests.{lt-ltb, le-ltb, ltb-true, ltb-false}
-use Rattle.std.specs.Prelude.{if◌then◌else◌}
+use mathlib.Core.Logic.{inl, inr}
+use Rattle.std.specs.Prelude.{Option, Some, None, Ok, Err, if◌then◌else◌}
 use Rattle.rules.specs.Line.{State, initial, token_at, Halt, failed, over_limit}
-use Rattle.rules.specs.Reading.{lines_of, count_lf, Entry, Reading, reads, halts, read_from, byte_sum, token_sum, state_at}
+use Rattle.rules.specs.Reading as RulesReading
+use Rattle.rules.specs.Reading.{lines_of, count_lf, Entry, reads, halts, read_from, byte_sum, token_sum, state_at}
 use Rattle.rules.specs.Limits.{max_levels, max_bytes, barge, barge_line}
 use Rattle.rules.specs.Replies as RulesReplies
 use Rattle.rules.specs.Replies.{reading, short, lines_buffer, tokens_buffer, refused_if, first_of, unless, is_too_long}
 use Rattle.rules.specs.Records.{width_words, line_size, token_size, line_need, token_need, state_words, line_records, end_entry, with_end, Records, records_of, record_tests, halt_refusal, recorded_by, recorded, unread, read_lines, Behind}
-use Rattle.rules.specs.Page.{Page, page_text, page_records, Faithful}
+use Rattle.rules.specs.Page.{Page, fits, page_text, page_records, Faithful}
 use Rattle.rules.specs.StopRule.{Edit, edited, reread_count}
 use Rattle.rules.specs.Edit.{late, stored}
 use Rattle.rules.proofs.LineLaws.{total, drop_lines}
@@ -28,22 +30,24 @@ use Rattle.rules.proofs.LimitLaws.{HaltNumbered, halt_numbered}
 use Rattle.rules.proofs.MendLaws.{kept-size, kept_length}
 use Rattle.rules.proofs.LoopLaws.{ReadTo, with_end_lem}
 use Rattle.rules.proofs.BoundLaws.{fresh_small, read-grown}
-use Rattle.rules.proofs.PageLaws.{Fits, page_length, fresh_inverse}
-use Rattle.rereading.specs.Rereads.{Old, Lines, RereadIs}
+use Rattle.rules.proofs.PageLaws.{Fits, fits_true, page_length, fresh_inverse}
+use Rattle.rereading.specs.Rereads as rereads
+use Rattle.rereading.specs.Rereads.{Old, RereadIs}
 use Rattle.rereading.specs.declared.Reread.{Reread}
-use Rattle.rereading.specs.declared.Reread.TheVariants.{Stops, Ends, Refused}
+use Rattle.rereading.specs.declared.Reread.TheVariants as reread
+use Rattle.rereading.specs.declared.Reread.TheVariants.{Stops, Ends}
 use Rattle.refusals.specs.Unreads.{unread_in, unread_of}
 use Rattle.refusals.specs.declared.Unread.{Unread}
+use Rattle.refusals.specs.declared.Buffer.TheVariants.{Lines, Tokens}
+use Rattle.refusals.specs.declared.Refusal.TheVariants.{Reading, Short, Unfit}
 use Rattle.refusals.proofs.Tests.{unread-back}
 use Rattle.records.specs.declared.State as LineState
 use Rattle.records.proofs.Words.{state-words, state-from}
 use Rattle.rereading.proofs.Rereads.{halts-whole}
 use Rattle.rereading.proofs.OldLines.{start_is, first-is, state-is, levels-at}
 use Rattle.records.specs.Words.{line_word, state_from}
-use Rattle.plans.specs.Plans.{lines_after, tokens_after, roomed, stop_plan, stop_answer, end_plan, new_lines, planned_lines, ReadsAs, Planned, Mends, LineRefusal, OnPaper, PlanIs}
+use Rattle.plans.specs.Plans.{lines_after, tokens_after, roomed_on, stop_plan, stop_answer, end_plan, end_answer, new_lines, planned_lines, ReadsAs, Planned, Mends, LineRefusal, OnPaper, PlanIs}
 use Rattle.plans.specs.declared.Plan.{Plan}
-use Rattle.plans.specs.declared.PlanAnswer.TheVariants as answers
-use Rattle.plans.specs.declared.PlanAnswer.TheVariants.{Writes, ShortLines, ShortTokens, Unfit}
 use Rattle.planning.specs.Starts.{is_usable, begin_line}
 use Rattle.planning.proofs.Starts.{Usable, true_usable}
 use Rattle.planning.proofs.Begins.{Begun, begin_at}
@@ -73,6 +77,10 @@ pub record Editable (pg : Page) (ed : Edit) : Type 0 where
   pub order : ed.a ≤ ed.b
   pub inside : ed.b ≤ pg.head.n
   pub small : length (edited (page_text pg) ed) ≤ 1_048_576
+
+pub editable : (pg : Page) (ed : Edit) (u : List ℕ) → fits pg ≡ true → (ed.a ≤ ed.b) × ((ed.b ≤ pg.head.n) × (length u ≤ 1_048_576)) → u ≡ edited (page_text pg) ed → Editable pg ed
+editable pg ed u f r e =
+    record { fits = fits_true pg f; order = r.0; inside = r.1.0; small = subst (λ (x : List ℕ). length x ≤ 1_048_576) e r.1.1 }
 
 module _ {pg : Page} {ed : Edit} (ok : Editable pg ed) where
   abbrev n : ℕ
@@ -225,19 +233,20 @@ module _ {pg : Page} {ed : Edit} (ok : Editable pg ed) where
   pub faithful_behind : Faithful pg → Behind barge_line t (page_records pg)
   faithful_behind h = behind barge_line t (page_records pg) (fresh_inverse t (page_records pg) h).2
 
-  pub begins-within : Faithful pg → (i : ℕ) → i ≡ begin_line text lines m k a → m < i → ⊥
-  begins-within h i e x =
+  pub begins-within : Faithful pg → None ≡ begin_line pg a → ⊥
+  begins-within h e =
       let v = fresh_inverse t (page_records pg) h in
       let bh = behind barge_line t (page_records pg) v.2 in
       let s = fresh_small barge_line (omega arith) t (page_records pg) (short-text t v.0) v.2 in
       let at : count_lf (take a text) ≡ count_lf (take a t) = ap count_lf (sym (take-take a n text (omega (arith, ok.order, ok.inside)))) in
-      let b = begin_at text lines m k a (omega (arith, s.n-le, s.m-le)) (omega (arith, s.n-le, s.k-le)) (count_lf (take a text)) refl
+      let b = begin_at pg a (omega (arith, s.n-le, s.m-le)) (omega (arith, s.n-le, s.k-le))
       (omega (arith, at, i-le bh)) (usable_of bh (count_lf (take a text)) at) in
-      omega (arith, e, b, at, i-le bh)
+      let q : ◌≡◌ {A = Option ℕ} None (Some (count_lf (take a text))) = e ∙ b in
+      cc
 
   -- A plan, with room or without.
   module _ (p : Plan) (pl : Planned u lines m k p) (mends : (bh : Behind barge_line t (page_records pg)) → Mends t lines bh.entries bh.end ed p) where
-    sizes_of : (x : Reading) → planned_lines u lines p ≡ x → ReadsAs p x → (p.lines ≡ length (new_lines p.ends x)) × (p.tokens ≡ token_sum (new_lines p.ends x))
+    sizes_of : (x : RulesReading.Reading) → planned_lines u lines p ≡ x → ReadsAs p x → (p.lines ≡ length (new_lines p.ends x)) × (p.tokens ≡ token_sum (new_lines p.ends x))
     sizes_of (reads es z) e r = (r.3, r.4)
     sizes_of (halts es h) e r = absurd r
 
@@ -311,14 +320,14 @@ module _ {pg : Page} {ed : Edit} (ok : Editable pg ed) where
         let bh = faithful_behind fa in
         rw (records-are bh, lines_need bh, tokens_need bh, le-ltb (length lines) (line_size * lines_after p m) l, lt-ltb (length tokens) (token_size * tokens_after p k) h) refl
 
-    pub roomed-is : PlanIs pg ed (roomed p m k (length lines) (length tokens))
+    pub roomed-is : PlanIs pg ed (roomed_on pg p)
     roomed-is = go (ltb 2_097_152 (tokens_after p k)) refl (ltb (length lines) (line_size * lines_after p m)) refl (ltb (length tokens) (token_size * tokens_after p k)) refl
       where
         go : (b1 : Bool) → ltb 2_097_152 (tokens_after p k) ≡ b1 → (b2 : Bool) → ltb (length lines) (line_size * lines_after p m) ≡ b2 → (b3 : Bool) → ltb (length tokens) (token_size * tokens_after p k) ≡ b3
-            → PlanIs pg ed (if b1 then Unfit else if b2 then ShortLines (line_size * lines_after p m) else if b3 then ShortTokens (token_size * tokens_after p k) else Writes p)
-        go true e1 b2 e2 b3 e3 = λ spare fa. absurd (omega (arith, ltb-true 2_097_152 (tokens_after p k) e1, few-tokens (faithful_behind fa)))
-        go false e1 true e2 b3 e3 = short-lines (ltb-true (length lines) (line_size * lines_after p m) e2)
-        go false e1 false e2 true e3 = short-tokens (ltb-false (length lines) (line_size * lines_after p m) e2) (ltb-true (length tokens) (token_size * tokens_after p k) e3)
+            → PlanIs pg ed (if b1 then Err Unfit else if b2 then Err (Short Lines (line_size * lines_after p m)) else if b3 then Err (Short Tokens (token_size * tokens_after p k)) else Ok p)
+        go true e1 b2 e2 b3 e3 = (tt, λ spare fa. absurd (omega (arith, ltb-true 2_097_152 (tokens_after p k) e1, few-tokens (faithful_behind fa))))
+        go false e1 true e2 b3 e3 = (inl refl, short-lines (ltb-true (length lines) (line_size * lines_after p m) e2))
+        go false e1 false e2 true e3 = (inr refl, short-tokens (ltb-false (length lines) (line_size * lines_after p m) e2) (ltb-true (length tokens) (token_size * tokens_after p k) e3))
         go false e1 false e2 false e3 = (
           pl,
           (
@@ -332,7 +341,7 @@ module _ {pg : Page} {ed : Edit} (ok : Editable pg ed) where
         )
 
   -- The plan after reading again from line i on.
-  module _ {i : ℕ} (bg : Begun text lines m k a i) where
+  module _ {i : ℕ} (bg : Begun pg a i) where
     abbrev base : ℕ
     base = line_word lines i 0
 
@@ -353,7 +362,7 @@ module _ {pg : Page} {ed : Edit} (ok : Editable pg ed) where
     Gives = RereadIs barge_line (drop base u) lines base i m i b (a + length w) z
 
     -- how much was read again
-    lines-small : (c x q : ℕ) (l : Lines barge_line (drop base u) z c x q) → (c ≤ q) × (x ≤ max_levels + 2 * q) × (x + length l.after.widths ≤ max_levels + 2 * q)
+    lines-small : (c x q : ℕ) (l : rereads.Lines barge_line (drop base u) z c x q) → (c ≤ q) × (x ≤ max_levels + 2 * q) × (x + length l.after.widths ≤ max_levels + 2 * q)
     lines-small c x q l =
         let rest : List ℕ = drop base u in
         let s = read-sizes barge_line z (take c (lines_of rest)) l.es l.after l.reads-are in
@@ -382,7 +391,7 @@ module _ {pg : Page} {ed : Edit} (ok : Editable pg ed) where
         let v = lines-small c x (length (drop base u)) r.0 in
         (omega (arith, v.0, rest-small), omega (arith, v.2, r.1.1, rest-small))
 
-    stop_planned : (c x q j : ℕ) (l : Lines barge_line (drop base u) z c x q) → q < length (drop base u) → j ≤ m → line_word lines j 1 ≤ k → line_word lines j 0 ≤ 4_294_967_295
+    stop_planned : (c x q j : ℕ) (l : rereads.Lines barge_line (drop base u) z c x q) → q < length (drop base u) → j ≤ m → line_word lines j 1 ≤ k → line_word lines j 0 ≤ 4_294_967_295
         → Planned u lines m k (stop_plan lines i base c x q j)
     stop_planned c x q j l hq hj hk ho =
         let v = lines-small c x q l in
@@ -429,18 +438,21 @@ module _ {pg : Page} {ed : Edit} (ok : Editable pg ed) where
         }
 
     pub stop_plan_lem : {c x q j : ℕ} → Gives (Stops c x q j) → line_word lines j 0 ≤ 4_294_967_295
-        → PlanIs pg ed (stop_answer lines i base m k c x q j (length tokens))
+        → PlanIs pg ed (stop_answer pg i base c x q j)
     stop_plan_lem {c} {x} {q} {j} r ho = go (ltb k (line_word lines j 1)) refl
       where
-        go : (y : Bool) → ltb k (line_word lines j 1) ≡ y → PlanIs pg ed (if y then Unfit else roomed (stop_plan lines i base c x q j) m k (length lines) (length tokens))
-        go true e = λ spare fa.
-            let bh = faithful_behind fa in
-            absurd (omega (arith, ltb-true k (line_word lines j 1) e, first_of_lem bh j r.1.1.0, k-is bh, take_sum j bh.entries, token_sum_append bh.entries (end_entry bh.end ∷ [])))
+        go : (y : Bool) → ltb k (line_word lines j 1) ≡ y → PlanIs pg ed (if y then Err Unfit else roomed_on pg (stop_plan lines i base c x q j))
+        go true e = (
+          tt,
+          λ spare fa.
+              let bh = faithful_behind fa in
+              absurd (omega (arith, ltb-true k (line_word lines j 1) e, first_of_lem bh j r.1.1.0, k-is bh, take_sum j bh.entries, token_sum_append bh.entries (end_entry bh.end ∷ []))),
+        )
         go false e =
             roomed-is (stop_plan lines i base c x q j) (stop_planned c x q j r.0 r.1.0 r.1.1.0 (ltb-false k (line_word lines j 1) e) ho) (stop-mends c x q j r)
 
-    end_planned : (c x g : ℕ) (l : Lines barge_line (drop base u) z c x (length (drop base u))) → length l.after.widths ≡ g → n ≤ 4_294_967_295
-        → Planned u lines m k (end_plan lines i base m k n (length u) c x g)
+    end_planned : (c x g : ℕ) (l : rereads.Lines barge_line (drop base u) z c x (length (drop base u))) → length l.after.widths ≡ g → n ≤ 4_294_967_295
+        → Planned u lines m k (end_plan pg i base (length u) c x g)
     unfolding token_sum
     end_planned c x g l hg hn =
         let v = lines-small c x (length (drop base u)) l in
@@ -455,7 +467,7 @@ module _ {pg : Page} {ed : Edit} (ok : Editable pg ed) where
           base-le = inside-u;
           depth = us.depth;
           levels = us.levels;
-          reads_as = subst (ReadsAs (end_plan lines i base m k n (length u) c x g)) (sym l.reads-are) (l.count, l.tokens, omega (arith, l.bytes, length-drop base u, inside-u), sym e, sym s);
+          reads_as = subst (ReadsAs (end_plan pg i base (length u) c x g)) (sym l.reads-are) (l.count, l.tokens, omega (arith, l.bytes, length-drop base u, inside-u), sym e, sym s);
           first-le = us.first;
           from_le = omega arith;
           j-le = omega arith;
@@ -465,7 +477,7 @@ module _ {pg : Page} {ed : Edit} (ok : Editable pg ed) where
         }
 
     end-mends : (c x : ℕ) (s : LineState.State) (r : Gives (Ends c x s)) (bh : Behind barge_line t (page_records pg))
-        → Mends t lines bh.entries bh.end ed (end_plan lines i base m k n (length u) c x s.levels)
+        → Mends t lines bh.entries bh.end ed (end_plan pg i base (length u) c x s.levels)
     unfolding old_of
     end-mends c x s r bh =
         let o = old_of bh i at-is in
@@ -476,7 +488,7 @@ module _ {pg : Page} {ed : Edit} (ok : Editable pg ed) where
         let le : length (with_end es end) ≤ m + 1 = omega (arith, length_end es end, m-is bh) in
         let tj : take (m + 1) (with_end es end) ≡ with_end es end = take_all (m + 1) (with_end es end) le in
         let dj : drop (m + 1) (with_end es end) ≡ [] = drop_of_length-le (with_end es end) {i = m + 1} le in
-        let nl : new_lines true (planned_lines u lines (end_plan lines i base m k n (length u) c x s.levels)) ≡ with_end r.0.es r.0.after = ap (new_lines true) r.0.reads-are in
+        let nl : new_lines true (planned_lines u lines (end_plan pg i base (length u) c x s.levels)) ≡ with_end r.0.es r.0.after = ap (new_lines true) r.0.reads-are in
         record {
           entries = take i es ++ r.0.es;
           last = r.0.after;
@@ -492,9 +504,9 @@ module _ {pg : Page} {ed : Edit} (ok : Editable pg ed) where
         }
 
     pub end_plan_lem : {c x : ℕ} (s : LineState.State) → Gives (Ends c x s) → n ≤ 4_294_967_295
-        → PlanIs pg ed (roomed (end_plan lines i base m k n (length u) c x s.levels) m k (length lines) (length tokens))
+        → PlanIs pg ed (end_answer pg i base (length u) c x s.levels)
     end_plan_lem {c} {x} s r hn =
-        roomed-is (end_plan lines i base m k n (length u) c x s.levels) (end_planned c x s.levels r.0 r.1.1 hn) (end-mends c x s r)
+        roomed-is (end_plan pg i base (length u) c x s.levels) (end_planned c x s.levels r.0 r.1.1 hn) (end-mends c x s r)
 
     -- the same, as the code has the rest of the text and the state
     pub gives : {rest : List ℕ} {y : State} {r q : Reread} → rest ≡ drop base u → y ≡ z → r ≡ q → RereadIs barge_line rest lines base i m i b (a + length w) y r → Gives q
@@ -509,7 +521,7 @@ module _ {pg : Page} {ed : Edit} (ok : Editable pg ed) where
     halt_refusal_lem p l (failed f) k = tt
     halt_refusal_lem p l (over_limit number) k = k
 
-    pub halt_plan : {x : Unread} → Gives (Refused x) → PlanIs pg ed (answers.Refused x)
+    pub halt_plan : {x : Unread} → Gives (reread.Refused x) → PlanIs pg ed (Err (Reading x))
     unfolding old_of stored
     halt_plan {x} h =
         let g = h.0 in (

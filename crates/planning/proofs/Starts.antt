@@ -11,7 +11,7 @@ use lib.Dec.{leb, eqb}
 use lib.ListN.{length, get_or, take, drop, take-append-drop}
 use lib.Seq.{take-suc, take-append-add, length-take-le}
 use mir.Val.{bool_byte}
-use borrow.Author.Tests.{le-leb, lt-leb, leb-true}
+use borrow.Author.Tests.{le-leb, leb-true}
 use Rattle.std.specs.Prelude.{if◌then◌else◌}
 use Rattle.rules.specs.Lists.{bit}
 use Rattle.rules.specs.Reading.{count_lf}
@@ -87,27 +87,6 @@ module _ (lines : List ℕ) (i k a : ℕ) where
         le-leb (line_word lines i 2) (line_word lines i 0) u.depth,
         le-leb (line_word lines i 4) max_levels u.levels,
       )
-
-  -- the tests, one after the other
-  pub not_start : a < line_word lines i 0 → is_usable lines i k a ≡ false
-  not_start h = rw (lt-leb (line_word lines i 0) a h)
-
-  module _ (s : line_word lines i 0 ≤ a) where
-    pub not_number : line_word lines i 0 < i → is_usable lines i k a ≡ false
-    not_number h = rw (le-leb (line_word lines i 0) a s, lt-leb i (line_word lines i 0) h)
-
-    module _ (n : i ≤ line_word lines i 0) where
-      pub not_first : k < line_word lines i 1 → is_usable lines i k a ≡ false
-      not_first h = rw (le-leb (line_word lines i 0) a s, le-leb i (line_word lines i 0) n, lt-leb (line_word lines i 1) k h)
-
-      module _ (f : line_word lines i 1 ≤ k) where
-        pub not_depth : line_word lines i 0 < line_word lines i 2 → is_usable lines i k a ≡ false
-        not_depth h =
-            rw (le-leb (line_word lines i 0) a s, le-leb i (line_word lines i 0) n, le-leb (line_word lines i 1) k f, lt-leb (line_word lines i 2) (line_word lines i 0) h)
-
-        pub only-levels : line_word lines i 2 ≤ line_word lines i 0 → is_usable lines i k a ≡ leb (line_word lines i 4) max_levels
-        only-levels h =
-            rw (le-leb (line_word lines i 0) a s, le-leb i (line_word lines i 0) n, le-leb (line_word lines i 1) k f, le-leb (line_word lines i 2) (line_word lines i 0) h)
 
 pub byte-bit : (b : Bool) → bool_byte b ≡ bit b
 byte-bit true = refl

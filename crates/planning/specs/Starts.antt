@@ -1,8 +1,9 @@
 -- Where reading again begins: the line, and its record by its words.
 -- Assumes nothing.
-use Rattle.std.specs.Prelude.{ℕ, ◌+◌, Bool, ◌&&◌, List, leb, ltb, take, if◌then◌else◌}
+use Rattle.std.specs.Prelude.{ℕ, Bool, ◌&&◌, List, leb, ltb, take, Option, Some, None, if◌then◌else◌}
 use Rattle.rules.specs.Reading.{count_lf}
 use Rattle.rules.specs.Limits.{max_levels}
+use Rattle.rules.specs.Page.{Page}
 use Rattle.records.specs.Words.{line_word}
 
 -- reading can begin at record i, for an edit from byte a on of a page with k tokens
@@ -12,11 +13,12 @@ is_usable lines i k a =
     && (leb i (line_word lines i 0)
     && (leb (line_word lines i 1) k && (leb (line_word lines i 2) (line_word lines i 0) && leb (line_word lines i 4) max_levels)))
 
--- The line where reading again begins, for an edit from byte a on; m + 1 where no faithful page has such a header or such a record.
-abbrev pub begin_line : (text lines : List ℕ) (m k a : ℕ) → ℕ
-begin_line text lines m k a =
-    if ltb 1_048_576 m then m + 1
-    else if ltb 2_097_152 k then m + 1
-    else if ltb m (count_lf (take a text)) then m + 1
-    else if is_usable lines (count_lf (take a text)) k a then count_lf (take a text)
-    else m + 1
+-- The line where reading again begins, for an edit from byte a on; none where no faithful page has such a header or such a record.
+abbrev pub begin_line : Page → (a : ℕ) → Option ℕ
+begin_line pg a =
+    let i = count_lf (take a pg.text) in
+    if ltb 1_048_576 pg.head.m then None
+    else if ltb 2_097_152 pg.head.k then None
+    else if ltb pg.head.m i then None
+    else if is_usable pg.lines i pg.head.k a then Some i
+    else None

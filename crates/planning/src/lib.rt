@@ -6,11 +6,16 @@ ghost use Rattle.rules.specs.Limits.{max_levels, barge_line};
 ghost use Rattle.rules.specs.Reading.{count_lf};
 ghost use Rattle.rules.specs.Page.{fits};
 ghost use Rattle.rules.specs.Records.{line_size};
-ghost use Rattle.header.specs.Pages.{page};
+ghost use Rattle.header.specs.Pages.{lent_page};
 ghost use Rattle.rereading.specs.Rereads.{RereadIs};
 ghost use Rattle.records.specs.Words.{line_word, state_from};
-ghost use Rattle.plans.specs.Plans.{edit_of, edited_text, PlanIs};
+ghost use Rattle.plans.specs.Plans.{lent_edit, edited_text, PlanIs};
 ghost use Rattle.planning.specs.Starts.{is_usable, begin_line};
+
+use header::Page;
+use plans::{Edit, Plan};
+use refusals::Refusal;
+use rereading::Reread;
 
 // The LFs of a part; a count in one byte is compiled to sums of vectors.
 fn count_part(part: &[u8]) -> u8
@@ -18,10 +23,8 @@ fn count_part(part: &[u8]) -> u8
     ensures { result ≡ count_lf part.now }
 {
     let mut n: u8 = 0;
-    let mut x: usize = 0;
-    while x < part.len() {
-        n += (part[x] == 10) as u8;
-        x += 1;
+    for b in part {
+        n += (*b == 10) as u8;
     }
     n
 }
@@ -53,6 +56,7 @@ pub fn count_lf(text: &[u8], a: usize) -> usize
 }
 
 // Reading can begin at record i.
+#[tactic(auto, using(std::proofs::lemmas::Bool::Decides::nat_tests))]
 pub fn usable(lines: &[u32], i: usize, k: usize, a: usize) -> bool
     requires { (i ≤ 1_048_576) × (line_size * (i + 1) ≤ length lines.now) }
     ensures { result ≡ is_usable lines.now i k a }
@@ -74,36 +78,32 @@ pub fn usable(lines: &[u32], i: usize, k: usize, a: usize) -> bool
     lines[at + 4] as usize <= records::LEVELS
 }
 
-// The line where reading again begins; m + 1 where the page is not faithful.
-fn begin_line(text: &[u8], lines: &[u32], m: usize, k: usize, a: usize) -> usize
-    requires { (a ≤ length text.now) × ((m ≤ 4_294_967_295) × (line_size * (m + 1) ≤ length lines.now)) }
-    ensures { result ≡ begin_line text.now lines.now m k a }
+// The line where reading again begins, for an edit from byte a on; none where the page is not faithful.
+#[tactic(auto, using(std::proofs::lemmas::Bool::Decides::nat_tests))]
+fn begin_line(page: Page, a: usize) -> Option<usize>
+    requires { (a ≤ length page.text.now) × (line_size * (page.head.m + 1) ≤ length page.lines.now) }
+    ensures { result ≡ begin_line (lent_page page.entry) a }
 {
+    let m = page.head.m as usize;
+    let k = page.head.k as usize;
     if 1_048_576 < m {
-        return m + 1;
+        return None;
     }
     if 2_097_152 < k {
-        return m + 1;
+        return None;
     }
-    let i = count_lf(text, a);
+    let i = count_lf(page.text, a);
     if m < i {
-        return m + 1;
+        return None;
     }
-    if usable(lines, i, k, a) {
-        return i;
+    if usable(page.lines, i, k, a) {
+        return Some(i);
     }
-    m + 1
+    None
 }
 
 // The lines of the edited text from old line i on, read again up to the stop rule, under the barge's limits.
-fn reread_from(
-    lines: &[u32],
-    edited: &[u8],
-    i: usize,
-    m: usize,
-    b: usize,
-    kept: usize,
-) -> rereading::Reread
+fn reread_from(lines: &[u32], edited: &[u8], i: usize, m: usize, b: usize, kept: usize) -> Reread
     requires i_bound { (i ≤ 1_048_576) × ((i ≤ m) × ((m ≤ 4_294_967_295) × (line_size * (m + 1) ≤ length lines.now))) }
     requires i_bound_2 { (i ≤ line_word lines.now i 0) × ((line_word lines.now i 2 ≤ line_word lines.now i 0) × (line_word lines.now i 4 ≤ max_levels)) }
     requires i_in_bounds { (line_word lines.now i 0 ≤ length edited.now) × ((length edited.now ≤ 1_048_576) × (b ≤ 4_294_967_295)) }
@@ -137,63 +137,28 @@ fn reread_from(
         &mut none,
         &mut nothing,
         place,
-        limits.line,
+        limits.line(),
         &mut widths,
         s,
     )
 }
 
-// What an edit of bytes a..b to w writes, for a page that fits; `edited` is the edited text.
-pub fn plan_edit(
-    n: u32,
-    m: u32,
-    k: u32,
-    text: &[u8],
-    lines: &[u32],
-    tokens: &[u32],
-    edited: &[u8],
-    a: usize,
-    b: usize,
-    w: &[u8],
-) -> plans::PlanAnswer
-    requires tokens_value { fits (page n m k text.now lines.now tokens.now) ≡ true }
-    requires a_le_b { (a ≤ b) × ((b ≤ n) × (length edited.now ≤ 1_048_576)) }
-    requires edited_value { edited.now ≡ edited_text (take n text.now) (edit_of a b w.now) }
-    ensures { PlanIs (page n m k text.now lines.now tokens.now) (edit_of a b w.now) result }
+// What an edit of a page that fits writes; `edited` is the edited text.
+pub fn plan_edit(page: Page, edited: &[u8], edit: Edit) -> Result<Plan, Refusal>
+    requires page_fits { fits (lent_page page) ≡ true }
+    requires in_range { (edit.a ≤ edit.b) × ((edit.b ≤ page.head.n) × (length edited.now ≤ 1_048_576)) }
+    requires edited_value { edited.now ≡ edited_text (take page.head.n page.text.now) (lent_edit edit) }
+    ensures { PlanIs (lent_page page.entry) (lent_edit edit.entry) result }
 {
-    let i = begin_line(text, lines, m as usize, k as usize, a);
-    if (m as usize) < i {
-        return plans::PlanAnswer::Unfit;
-    }
+    let Some(i) = begin_line(page, edit.a) else {
+        return Err(Refusal::Unfit);
+    };
+    let lines = page.lines;
     let base = lines[records::LINE * i + 0] as usize;
-    match reread_from(lines, edited, i, m as usize, b, a + w.len()) {
-        rereading::Reread::Stops(c, t, q, j) => {
-            plans::plan_stop(
-                lines,
-                i,
-                base,
-                m as usize,
-                k as usize,
-                c,
-                t,
-                q,
-                j,
-                tokens.len(),
-            )
-        }
-        rereading::Reread::Ends(c, t, s) => plans::plan_end(
-            lines,
-            i,
-            base,
-            m as usize,
-            k as usize,
-            n as usize,
-            edited.len(),
-            c,
-            t,
-            s.levels,
-            tokens.len(),
-        ),
-        rereading::Reread::Refused(u) => plans::PlanAnswer::Refused(u),
+    let kept = edit.a + edit.w.len();
+    match reread_from(lines, edited, i, page.head.m as usize, edit.b, kept) {
+        Reread::Stops(c, t, q, j) => plans::plan_stop(page, i, base, c, t, q, j),
+        Reread::Ends(c, t, s) => plans::plan_end(page, i, base, edited.len(), c, t, s.levels),
+        Reread::Refused(u) => Err(Refusal::Reading(u)),
     }
 }

@@ -81,7 +81,7 @@ pub fn write_records(
         lines,
         tokens,
         place,
-        limits.line,
+        limits.line(),
         &mut widths,
         s,
     );

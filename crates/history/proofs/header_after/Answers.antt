@@ -1,30 +1,19 @@
 -- `history::header_after` meets its contract.
-use mathlib.Core.Path.{refl, sym, subst}
-use native.Mathlib.Omega.{arith}
-use Rattle.history.specs.Lists.{SmallAnswer}
-use Rattle.history.proofs.Lists.{head-edited, head-kept}
+use mathlib.Core.Path.{sym, ap, ◌∙◌}
+use Rattle.std.specs.Prelude.{Result}
+use Rattle.rules.specs.Page.{header_after}
+use Rattle.refusals.specs.declared.Refusal.{Refusal}
+use Rattle.header.specs.Pages.{header_of}
+use Rattle.editing.specs.Answers.{edit_numbers}
+use Rattle.editing.specs.declared.Edited.{Edited}
+use Rattle.history.proofs.Lists.{head-kept}
 use Rattle.history.proofs.header_after.Goals as goal
 
-pub overflow_cast-result : goal.overflow_cast-result
-overflow_cast-result c =
-    let x = subst SmallAnswer c.in-Edited.is c.requires in
-    omega (arith, x.0, x.1, x.2)
+pub returns-in-Ok : goal.returns-in-Ok
+unfolding header_after
+returns-in-Ok c = ap (λ (r : Result Edited Refusal). header_after (header_of c.args.head) (edit_numbers r)) (sym c.in-Ok.is)
 
-pub overflow_cast-result-in-Edited : goal.overflow_cast-result-in-Edited
-overflow_cast-result-in-Edited c =
-    let x = subst SmallAnswer c.in-Edited.is c.requires in
-    omega (arith, x.0, x.1, x.2)
-
-pub overflow_cast-result-in-Edited-2 : goal.overflow_cast-result-in-Edited-2
-overflow_cast-result-in-Edited-2 c =
-    let x = subst SmallAnswer c.in-Edited.is c.requires in
-    omega (arith, x.0, x.1, x.2)
-
-pub returns-in-Edited : goal.returns-in-Edited
-returns-in-Edited c =
-    let a = c.args in
-    (head-edited a.n a.m a.k a.last _ _ _ _ c.in-Edited.is, sym c.in-Edited.is)
-
-pub returns-in_default : goal.returns-in_default
-returns-in_default c =
-    (head-kept c.args.n c.args.m c.args.k c.args.last c.in_default.not-Edited, refl)
+pub returns-in-Err : goal.returns-in-Err
+returns-in-Err c =
+    let h = header_of c.args.head in
+    head-kept h c.in-Err.field-0 ∙ ap (λ (r : Result Edited Refusal). header_after h (edit_numbers r)) (sym c.in-Err.is)

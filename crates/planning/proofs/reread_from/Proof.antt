@@ -1,7 +1,7 @@
 -- `planning::reread_from` meets its contract: the tables and the old line's state are those that reading on asks for.
 -- Assumes nothing.
 use Prim.Native.Nat.{ℕ, ◌+◌, ◌-◌, ◌*◌}
-use mathlib.Core.Path.{◌≡◌, refl, ap}
+use mathlib.Core.Path.{◌≡◌, refl, ap, ◌∙◌}
 use mathlib.Core.Bool.{false≢true}
 use mathlib.Core.Logic.{inl}
 use native.Mathlib.Omega.{arith}
@@ -9,7 +9,7 @@ use lib.ListN.{length, drop, length-drop, length-take}
 use lib.Seq.{take_all}
 use borrow.Author.Rules.{rules}
 use Rattle.rules.specs.Line.{State}
-use Rattle.refusals.proofs.Barge.{barge-line, barge-fits}
+use Rattle.refusals.proofs.Barge.{barge-line}
 use Rattle.rules.specs.Records.{line_size}
 use Rattle.records.specs.Words.{line_word}
 use Rattle.planning.proofs.reread_from.Statement.{statement}
@@ -70,12 +70,14 @@ slice-aggregate-read-on c = search rules
 slice-aggregate-read-on-2 : tie.Need-slice_bounds-read_on-end-3
 slice-aggregate-read-on-2 c = search rules
 
+line-requires : tie.Need-line-requires
+line-requires c κs = search rules
+
 slice-aggregate-read-on-3 : tie.Need-slice_bounds-read_on-end-4
 slice-aggregate-read-on-3 c = search rules
 
 read-on-requires : tie.Need-read_on-requires
 read-on-requires c κs =
-    let b = (limits c.before.before.before.before.before.before.before.before).barge_limits-limits in
     let s = start c.before.before.before.before.before.before.before.before in
     let E = s.args.edited.now in
     let d : c.load_state-s.result.depth ≡ line_word s.args.lines.now s.args.i 2 = ap (λ (y : State). y.depth) c.load_state-s.ensures.0 in (
@@ -88,7 +90,7 @@ read-on-requires c κs =
         (
           s.requires.0.1.1,
           (
-            (omega (arith, d, s.requires.1.0.1.0), (c.load_state-s.ensures.1, c.load_state-s.auto.widths, (barge-fits b.result b.ensures).1)),
+            (omega (arith, d, s.requires.1.0.1.0), (c.load_state-s.ensures.1, c.load_state-s.auto.widths, c.line.result.few)),
             record { ends = λ e. absurd (false≢true e); may = record { room = λ e. absurd (false≢true e); few = inl refl } },
           ),
         ),
@@ -101,7 +103,7 @@ returns c =
     let E = s.args.edited.now in
     let rest = take_all (length E - base c.before.before.before.before.before.before.before.before.before.before.before.before) (drop (base c.before.before.before.before.before.before.before.before.before.before.before.before) E) (omega (arith, length-drop (base c.before.before.before.before.before.before.before.before.before.before.before.before) E)) in
     let b = (limits c.before.before.before.before.before.before.before.before.before.before.before.before).barge_limits-limits in
-    rw (rest, c.load_state-s.ensures.0, barge-line b.result b.ensures) at c.read_on.ensures.0
+    rw (rest, c.load_state-s.ensures.0, c.line.ensures ∙ barge-line b.result b.ensures) at c.read_on.ensures.0
 
 pub reread_from_spec : {M : Type 1} → statement M
 reread_from_spec =
@@ -121,6 +123,7 @@ reread_from_spec =
     part-read-on-end
     slice-aggregate-read-on
     slice-aggregate-read-on-2
+    line-requires
     slice-aggregate-read-on-3
     read-on-requires
     returns)

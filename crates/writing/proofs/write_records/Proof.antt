@@ -7,8 +7,9 @@ use native.Mathlib.Omega.{arith}
 use lib.ListN.{length, take, drop, length-drop, length-take}
 use Rattle.rules.specs.Line.{State}
 use Rattle.rules.specs.Reading.{Reading, lines_of, read_from}
-use Rattle.refusals.specs.Limits.{line_limits_of}
-use Rattle.refusals.proofs.Barge.{barge-line, barge-fits}
+use Rattle.refusals.specs.Limits.{line_limits_of, line_of}
+use Rattle.refusals.specs.declared.bounds.LineLimits.{LineLimits}
+use Rattle.refusals.proofs.Barge.{barge-line}
 use Rattle.records.specs.States.{state_of}
 use Rattle.rereading.specs.Rewrites.{Reaches}
 use Rattle.records.specs.Words.{line_word}
@@ -138,16 +139,19 @@ part-rewrite-lines-start c = (part-lines (planned (start (state-at c.before.befo
 part-rewrite-lines-end : tie.Need-slice_bounds-rewrite_lines-end
 part-rewrite-lines-end c = new-le (planned (start (state-at c.before.before)))
 
+line-requires : tie.Need-line-requires
+line-requires c κs = search rules
+
 slice-aggregate-rewrite-lines : tie.Need-slice_bounds-rewrite_lines-end-2
 slice-aggregate-rewrite-lines c = sym (state-at c.before.before.before.before.before.before.before).load_state-s.auto.widths
 
 -- the lines read again, as the code has the part of the text and the state, are the planned ones
-part-read : (b : tie.After-barge_limits-limits)
+part-read : (b : tie.After-barge_limits-limits) (l : LineLimits) → line_limits_of l ≡ line_of b.barge_limits-limits.result
     → let c = state-at b.before in let a = (start c).args in let E = a.edited.now in let base = a.p.base in
-    read_from (line_limits_of b.barge_limits-limits.result.line) (state_of c.load_state-s.result c.load_state-s.new.widths) (lines_of (take (a.p.new - base) (drop base E))) ≡ planned_lines E a.lines.now a.p
-part-read b =
+    read_from (line_limits_of l) (state_of c.load_state-s.result c.load_state-s.new.widths) (lines_of (take (a.p.new - base) (drop base E))) ≡ planned_lines E a.lines.now a.p
+part-read b l e =
     let c = state-at b.before in
-    λ x. read_from (barge-line b.barge_limits-limits.result b.barge_limits-limits.ensures x) (c.load_state-s.ensures.0 x) ((part-lines (planned (start c))).1 x)
+    λ x. read_from ((e ∙ barge-line b.barge_limits-limits.result b.barge_limits-limits.ensures) x) (c.load_state-s.ensures.0 x) ((part-lines (planned (start c))).1 x)
 
 rewrite-lines-requires : tie.Need-rewrite_lines-z-requires
 rewrite-lines-requires c κs =
@@ -163,8 +167,8 @@ rewrite-lines-requires c κs =
       (
         (omega (arith, length-take (s.args.p.new - base) (drop base E), length-drop base E, s.requires.0.0, pl.base-le), pl.number),
         (
-          (omega (arith, d, pl.depth), (l.load_state-s.ensures.1, l.load_state-s.auto.widths, (barge-fits c.barge_limits-limits.result c.barge_limits-limits.ensures).1)),
-          (refl, (few-from pl (part-read c.before.before.before.before.before.before) s.requires.1.1, room_moved pl (part-read c.before.before.before.before.before.before) ml.move_lines.auto.lines mt.move_tokens.auto.tokens s.requires.1.1)),
+          (omega (arith, d, pl.depth), (l.load_state-s.ensures.1, l.load_state-s.auto.widths, c.line.result.few)),
+          (refl, (few-from pl (part-read c.before.before.before.before.before.before c.line.result c.line.ensures) s.requires.1.1, room_moved pl (part-read c.before.before.before.before.before.before c.line.result c.line.ensures) ml.move_lines.auto.lines mt.move_tokens.auto.tokens s.requires.1.1)),
         ),
       ),
     )
@@ -183,7 +187,7 @@ reached c =
     record {
       few = c.rewrite_lines-z.ensures.0.1;
       wide = c.rewrite_lines-z.auto.widths ∙ l.load_state-s.auto.widths;
-      is = subst (λ (r : Reading). Reaches r (state_of c.rewrite_lines-z.result (widths-at c))) (part-read (limited c)) c.rewrite_lines-z.ensures.0.0;
+      is = subst (λ (r : Reading). Reaches r (state_of c.rewrite_lines-z.result (widths-at c))) (part-read (limited c) c.line.result c.line.ensures) c.rewrite_lines-z.ensures.0.0;
     }
 
 -- the buffers are as long as they were
@@ -215,7 +219,7 @@ returns c =
     let ml = lines-moved (tabled r) in
     let mt = tokens-moved ml in
     let s = began r in
-    let read = part-read (limited r) in (
+    let read = part-read (limited r) r.line.result r.line.ensures in (
       lines-written (planned s) (reached r) s.args.lines.now _ read ml.move_lines.ensures r.rewrite_lines-z.ensures.1.0 c.put_end.ensures.0,
       tokens-written (planned s) (reached r) s.args.tokens.now _ read mt.move_tokens.ensures r.rewrite_lines-z.ensures.1.1 c.put_end.ensures.1,
     )
@@ -251,6 +255,7 @@ write_records_spec =
     sub-rewrite-lines
     part-rewrite-lines-start
     part-rewrite-lines-end
+    line-requires
     slice-aggregate-rewrite-lines
     rewrite-lines-requires
     slice-aggregate-put-end
