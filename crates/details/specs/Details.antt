@@ -1,24 +1,33 @@
--- The parts of a detail's text.
+-- The details by their numbers.
 -- Assumes nothing.
-use Rattle.std.specs.Prelude.{ℕ, Bool, true, false, List, ◌++◌, ltb, eqb, take, drop, if◌then◌else◌}
-use Rattle.rules.specs.Lists.{ascii}
-use Rattle.rules.specs.Failure.{detail_of}
-use Rattle.rules.specs.Report.{shown}
+use Rattle.std.specs.Prelude.{ℕ, ◌≡◌, ◌<◌, ◌⊎◌, Result, MatchResult}
+use Rattle.rules.specs.Failure.{Shows, nothing, scalar, hex_digits, unexpected_character, expected_and, unterminated_string, bad_indent, unterminated, empty, escape_above, expected_hex_digit, unknown_escape, control_character, non_ascii, expected_quote}
+use Rattle.details.specs.declared.Detail.{Detail}
+use Rattle.details.specs.declared.Detail.TheVariants.{UnexpectedCharacter, ExpectedAnd, UnterminatedString, BadIndent, Unterminated, Empty, EscapeAbove, ExpectedHexDigit, UnknownEscape, ControlCharacter, NonAscii, ExpectedQuote}
+use Rattle.details.specs.declared.Shown.{Shown}
+use Rattle.details.specs.declared.Shown.TheVariants.{Nothing, Scalar, HexDigits}
+use Rattle.details.specs.declared.UnknownDetail.{UnknownDetail}
 
--- The detail's text: what it begins with, where it is of a byte literal; the rest before what is shown; and what is shown with the text after it.
+abbrev pub number_of : Detail → ℕ
+number_of UnexpectedCharacter = unexpected_character
+number_of ExpectedAnd = expected_and
+number_of UnterminatedString = unterminated_string
+number_of BadIndent = bad_indent
+number_of Unterminated = unterminated
+number_of Empty = empty
+number_of EscapeAbove = escape_above
+number_of ExpectedHexDigit = expected_hex_digit
+number_of UnknownEscape = unknown_escape
+number_of ControlCharacter = control_character
+number_of NonAscii = non_ascii
+number_of ExpectedQuote = expected_quote
 
-unfoldable pub subject_size : ℕ → ℕ
-subject_size d = if ltb d 5 then 0 else 22
+-- the detail with this number, or no detail has it
+abbrev pub Numbered : ℕ → Result Detail UnknownDetail → Type 0
+Numbered n r = MatchResult r (λ d. number_of d ≡ n) (λ e. (e.0 ≡ n) × ((n < 1) ⊎ (12 < n)))
 
-unfoldable pub subject_of : ℕ → List ℕ
-subject_of d = take (subject_size d) (ascii (detail_of d).front)
-
-unfoldable pub reason_of : ℕ → List ℕ
-reason_of d = drop (subject_size d) (ascii (detail_of d).front)
-
--- the detail shows the scalar itself
-unfoldable pub scalar_shown : ℕ → Bool
-scalar_shown d = if eqb d 1 then true else if ltb d 8 then false else if eqb d 10 then false else ltb d 13
-
-unfoldable pub found_text : (detail found : ℕ) → List ℕ
-found_text d c = shown (detail_of d).shows c ++ ascii (detail_of d).back
+-- what a detail shows of the scalar found
+abbrev pub shows_of : Shown → Shows
+shows_of Nothing = nothing
+shows_of Scalar = scalar
+shows_of HexDigits = hex_digits

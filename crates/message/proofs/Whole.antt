@@ -1,13 +1,12 @@
 -- The whole message: its fields, and that it is small enough.
 -- Assumes nothing.
-use Prim.Native.Nat.{ℕ, zero, suc, ◌+◌, ◌-◌, ◌/◌, ◌≤◌, ◌<◌, pred}
-use mathlib.Core.Path.{◌≡◌, refl, ap, ◌∙◌}
+use Prim.Native.Nat.{ℕ, zero, suc, ◌+◌, ◌-◌, ◌/◌, ◌^◌, ◌≤◌, ◌<◌, pred}
+use mathlib.Core.Path.{◌≡◌, refl, sym, ap}
 use mathlib.Core.Bool.{Bool, true, false}
 use mathlib.Core.List.{List, [], ◌∷◌, ◌++◌}
 use native.Mathlib.Omega.{arith}
 use lib.Dec.{ltb}
 use lib.ListN.{length, drop, replicate, length-append, length-take, length-drop, length-replicate}
-use Rattle.laws.specs.Puts.{put_if}
 use Rattle.std.specs.Prelude.{if◌then◌else◌}
 use Rattle.rules.specs.Lists.{ascii, run, concat}
 use Rattle.rules.specs.Utf8.{later_byte, encode}
@@ -15,9 +14,10 @@ use Rattle.rules.specs.Failure.{Shows, nothing, scalar, hex_digits, details, det
 use Rattle.rules.specs.Reading.{not_lf, content}
 use Rattle.rules.specs.Report.{digits_in, decimal, shown, detail_text, aligned, failing_line, message}
 use Rattle.print.proofs.Prints.{places-le, length_digits, length_decimal}
-use Rattle.print.specs.Fields.{Room, Put}
-use Rattle.message.specs.Messages.{heading_of, place_of, excerpt_of, caret_of, message_of}
-use Rattle.print.proofs.Fields.{length_fields}
+use Rattle.refusals.specs.declared.FailureRecord.{FailureRecord as FailureIn}
+use Rattle.print.specs.Printers.{PrinterLaws}
+use Rattle.message.specs.Messages.{heading_of, place_of, excerpt_of, caret_of, message_of, message_in, Printable}
+use Rattle.print.proofs.Fields.{length_fields, fits_as, prints_as, fields_front, fields_back, print_both}
 
 abbrev pub fields_of : List ℕ → (code detail found line column start : ℕ) → List (List ℕ)
 fields_of t n d c l k start = heading_of n d c ++ (place_of l k ++ (excerpt_of t l start ++ caret_of k))
@@ -176,15 +176,50 @@ fields-small t n d c l k start g h =
       caret_small k,
     )
 
-pub message-room : {w : Bool} {out : List ℕ} (t : List ℕ) (n d c p l k : ℕ) → length t ≤ 1_048_576 → p ≤ length t → l < 10_000_000_000 → k ≤ p + 1
-    → (w ≡ true → length (message_of t n d c p l k) ≤ length out) → Room w out 0 (fields_of t n d c l k (p + 1 - k))
-message-room {w} t n d c p l k ht hp hl hk f =
-    let e : length (concat (fields_of t n d c l k (p + 1 - k))) ≡ length (message_of t n d c p l k) = ap length (message-fields t n d c p l k) in
-    let s = fields-small t n d c l k (p + 1 - k) hl (omega (arith, ht, hp, hk)) in
-    record { small = omega (arith, s, ht, hp, hk); fits = λ (h : w ≡ true). omega (arith, e, f h) }
+-- the message of a failure is a count
+pub message-counts : (t : List ℕ) (f : FailureIn) → Printable t f → f.line < 10_000_000_000 → 0 + length (message_in t f) < 2 ^ 64
+message-counts t f p l =
+    let s = fields-small t f.code f.detail f.found f.line f.column (f.position + 1 - f.column) l (omega (arith, p.3, p.4, p.6)) in
+    omega (arith, s, p.3, p.4, p.6, ap length (message-fields t f.code f.detail f.found f.position f.line f.column))
 
-pub message-put : {w : Bool} {out : List ℕ} {after : List ℕ} {next : ℕ} (t : List ℕ) (n d c p l k : ℕ) → Put w out 0 (fields_of t n d c l k (p + 1 - k)) after next
-    → (next ≡ length (message_of t n d c p l k)) × (after ≡ put_if w out 0 (message_of t n d c p l k))
-message-put {w} {out} t n d c p l k v =
-    let e : concat (fields_of t n d c l k (p + 1 - k)) ≡ message_of t n d c p l k = message-fields t n d c p l k in
-    (omega (arith, v.size, ap length e), v.holds ∙ ap (put_if w out 0) e)
+-- A message printed part by part: the room that each part finds, and the whole.
+module _ {P : Type 0} {fits : P → ℕ → Type 0} {prints : P → List ℕ → P → Type 0} (laws : PrinterLaws fits prints) (t : List ℕ) (f : FailureIn) where
+  abbrev heading : List (List ℕ)
+  heading = heading_of f.code f.detail f.found
+
+  abbrev place : List (List ℕ)
+  place = place_of f.line f.column
+
+  abbrev excerpt : List (List ℕ)
+  excerpt = excerpt_of t f.line (f.position + 1 - f.column)
+
+  abbrev caret : List (List ℕ)
+  caret = caret_of f.column
+
+  whole : concat (heading ++ (place ++ (excerpt ++ caret))) ≡ message_in t f
+  whole = message-fields t f.code f.detail f.found f.position f.line f.column
+
+  all_fits : {p : P} → fits p (length (message_in t f)) → fits p (length (concat (heading ++ (place ++ (excerpt ++ caret)))))
+  all_fits r = fits_as laws (ap length (sym whole)) r
+
+  pub heading_fits : {p : P} → fits p (length (message_in t f)) → fits p (length (concat heading))
+  heading_fits r = fields_front laws heading (place ++ (excerpt ++ caret)) (all_fits r)
+
+  behind_heading : {p q : P} → fits p (length (message_in t f)) → prints p (concat heading) q → fits q (length (concat (place ++ (excerpt ++ caret))))
+  behind_heading r m = fields_back laws heading (place ++ (excerpt ++ caret)) (all_fits r) m
+
+  pub place_fits : {p q : P} → fits p (length (message_in t f)) → prints p (concat heading) q → fits q (length (concat place))
+  place_fits r m = fields_front laws place (excerpt ++ caret) (behind_heading r m)
+
+  behind_place : {p q r : P} → fits p (length (message_in t f)) → prints p (concat heading) q → prints q (concat place) r → fits r (length (concat (excerpt ++ caret)))
+  behind_place r m n = fields_back laws place (excerpt ++ caret) (behind_heading r m) n
+
+  pub excerpt_fits : {p q r : P} → fits p (length (message_in t f)) → prints p (concat heading) q → prints q (concat place) r → fits r (length (concat excerpt))
+  excerpt_fits r m n = fields_front laws excerpt caret (behind_place r m n)
+
+  pub caret_fits : {p q r s : P} → fits p (length (message_in t f)) → prints p (concat heading) q → prints q (concat place) r → prints r (concat excerpt) s → fits s (length (concat caret))
+  caret_fits r m n o = fields_back laws excerpt caret (behind_place r m n) o
+
+  pub message_printed : {p q r s u : P} → prints p (concat heading) q → prints q (concat place) r → prints r (concat excerpt) s → prints s (concat caret) u → prints p (message_in t f) u
+  message_printed m n o v =
+      prints_as laws whole (print_both laws heading (place ++ (excerpt ++ caret)) m (print_both laws place (excerpt ++ caret) n (print_both laws excerpt caret o v)))

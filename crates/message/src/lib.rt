@@ -1,110 +1,117 @@
-// A failure's message, written field after field. A pass that does not write only counts.
+// A failure's message, printed field after field: its size, or the message in a buffer that is lent.
 #![tactic(auto)]
 
-ghost use Rattle.std.specs.Prelude.{◌≡◌, true, [], ◌∷◌, ◌+◌, ◌≤◌, ◌<◌, length};
-ghost use Rattle.laws.specs.Puts.{put_if};
-ghost use Rattle.rules.specs.Lists.{run};
-ghost use Rattle.rules.specs.Reading.{not_lf, content};
+ghost use Rattle.std.specs.Prelude.{◌≡◌, ◌==◌, ◌+◌, ◌≤◌, ◌<◌, length, position};
+ghost use Rattle.std.proofs.lemmas.List.Edits.{sets};
+ghost use Rattle.rules.specs.Lists.{concat};
+ghost use Rattle.rules.specs.Reading.{content};
 ghost use Rattle.rules.specs.Report.{decimal, aligned};
-ghost use Rattle.print.specs.Fields.{Room, Put};
 ghost use Rattle.message.specs.Messages.{heading_of, place_of, excerpt_of, caret_of, message_in, Printable};
 
+use print::{Count, Lent, Printer};
+
 // The first line: the code and the detail.
-fn put_heading(out: &mut [u8], write: bool, at: usize, code: u32, detail: u32, found: u32) -> usize
-    requires { (1 ≤ detail) × (detail ≤ 12) × (found < 1_114_112) × Room write out.old at (heading_of code detail found) }
-    ensures { Put write out.old at (heading_of code detail found) out.new result }
+fn put_heading<P: Printer>(out: &mut P, code: u32, detail: u32, found: u32)
+    requires detail { 1 ≤ detail }
+    requires found { found < 1_114_112 }
+    requires fits { P.fits out.old (length (concat (heading_of code detail found))) }
+    ensures { P.prints out.old (concat (heading_of code detail found)) out.new }
 {
-    let a = print::put_bytes(out, write, at, b"error[E");
-    let b = print::put_digits(out, write, a, 10, 4, code);
-    let c = print::put_bytes(out, write, b, b"]: ");
-    details::put_detail(out, write, c, detail, found)
+    out.put_bytes(b"error[E");
+    out.put_digits(10, 4, code);
+    out.put_bytes(b"]: ");
+    details::put_detail(out, detail, found);
 }
 
 // The second line: where the failure stands.
-fn put_place(out: &mut [u8], write: bool, at: usize, line: u32, column: u32) -> usize
-    requires { Room write out.old at (place_of line column) }
-    ensures { Put write out.old at (place_of line column) out.new result }
+fn put_place<P: Printer>(out: &mut P, line: u32, column: u32)
+    requires { P.fits out.old (length (concat (place_of line column))) }
+    ensures { P.prints out.old (concat (place_of line column)) out.new }
 {
-    let a = print::put_bytes(out, write, at, b"\n --> <input>:");
-    let b = print::put_decimal(out, write, a, line);
-    let c = print::put_bytes(out, write, b, b":");
-    print::put_decimal(out, write, c, column)
+    out.put_bytes(b"\n --> <input>:");
+    print::put_decimal(out, line);
+    out.put_bytes(b":");
+    print::put_decimal(out, column);
 }
 
 // A number, at least two wide.
-fn put_aligned(out: &mut [u8], write: bool, at: usize, n: u32) -> usize
-    requires { Room write out.old at (aligned (decimal n) ∷ []) }
-    ensures { Put write out.old at (aligned (decimal n) ∷ []) out.new result }
+fn put_aligned<P: Printer>(out: &mut P, n: u32)
+    requires { P.fits out.old (length (aligned (decimal n))) }
+    ensures { P.prints out.old (aligned (decimal n)) out.new }
 {
-    if n < 10 {
-        let next = print::put_fill(out, write, at, 32, 1);
-        return print::put_decimal(out, write, next, n);
-    }
-    print::put_decimal(out, write, at, n)
+    out.put_fill(b' ', 2usize.saturating_sub(print::decimal_places(n)));
+    print::put_decimal(out, n);
 }
 
-// The bytes before the first LF.
-#[tactic(auto, using(crate::proofs::Excerpts::ends_at_lf, crate::proofs::Excerpts::goes_on, crate::proofs::Excerpts::ends_at_end))]
-fn content_size(line: &[u8]) -> usize
-    ensures { result ≡ run not_lf line.now }
+// Where the first LF stands.
+fn first_lf(text: &[u8]) -> Option<usize>
+    ensures { result ≡ position (λ b. b == 10) text.now }
 {
-    let mut i: usize = 0;
-    while i < line.len() {
-        if line[i] == 10 {
-            return i;
-        }
-        i += 1;
-    }
-    i
+    text.iter().position(|b| *b == b'\n')
 }
 
-// A line without its LF.
-fn put_content(out: &mut [u8], write: bool, at: usize, line: &[u8]) -> usize
-    requires { Room write out.old at (content line.now ∷ []) }
-    ensures { Put write out.old at (content line.now ∷ []) out.new result }
+// The first line, without its LF.
+fn content_of(text: &[u8]) -> &[u8]
+    ensures { result.now ≡ content text.now }
 {
-    let size = content_size(line);
-    print::put_bytes(out, write, at, &line[0..size])
+    let end = first_lf(text).unwrap_or(text.len());
+    &text[..end]
 }
 
 // The third and the fourth line: the line where the failure stands, with its number.
-fn put_excerpt(
-    out: &mut [u8],
-    write: bool,
-    at: usize,
-    text: &[u8],
-    line: u32,
-    start: usize,
-) -> usize
-    requires { (start ≤ length text.now) × Room write out.old at (excerpt_of text.now line start) }
-    ensures { Put write out.old at (excerpt_of text.now line start) out.new result }
+fn put_excerpt<P: Printer>(out: &mut P, text: &[u8], line: u32, start: usize)
+    requires start { start ≤ length text.now }
+    requires fits { P.fits out.old (length (concat (excerpt_of text.now line start))) }
+    ensures { P.prints out.old (concat (excerpt_of text.now line start)) out.new }
 {
-    let a = print::put_bytes(out, write, at, b"\n  |\n");
-    let b = put_aligned(out, write, a, line);
-    let c = print::put_bytes(out, write, b, b" | ");
-    put_content(out, write, c, &text[start..])
+    out.put_bytes(b"\n  |\n");
+    put_aligned(out, line);
+    out.put_bytes(b" | ");
+    out.put_bytes(content_of(&text[start..]));
 }
 
 // The last row: a caret, moved by the byte column.
-fn put_caret(out: &mut [u8], write: bool, at: usize, column: u32) -> usize
-    requires { (1 ≤ column) × Room write out.old at (caret_of column) }
-    ensures { Put write out.old at (caret_of column) out.new result }
+fn put_caret<P: Printer>(out: &mut P, column: u32)
+    requires column { 1 ≤ column }
+    requires fits { P.fits out.old (length (concat (caret_of column))) }
+    ensures { P.prints out.old (concat (caret_of column)) out.new }
 {
-    let a = print::put_bytes(out, write, at, b"\n  | ");
-    let b = print::put_fill(out, write, a, 32, column as usize - 1);
-    print::put_bytes(out, write, b, b"^")
+    out.put_bytes(b"\n  | ");
+    out.put_fill(b' ', column as usize - 1);
+    out.put_bytes(b"^");
 }
 
-// The message of a failure with these numbers, at the front of out; its length.
-pub fn put_message(out: &mut [u8], write: bool, text: &[u8], f: refusals::FailureRecord) -> usize
+// The message of a failure in a text.
+fn print_message<P: Printer>(out: &mut P, text: &[u8], f: refusals::FailureRecord)
     requires printable { Printable text.now f }
-    requires f_in_bounds { write ≡ true → length (message_in text.now f) ≤ length out.old }
-    ensures value { result ≡ length (message_in text.now f) }
-    ensures out_after { out.new ≡ put_if write out.old 0 (message_in text.now f) }
+    requires fits { P.fits out.old (length (message_in text.now f)) }
+    ensures { P.prints out.old (message_in text.now f) out.new }
 {
     let start = f.position as usize + 1 - f.column as usize;
-    let a = put_heading(out, write, 0, f.code, f.detail, f.found);
-    let b = put_place(out, write, a, f.line, f.column);
-    let c = put_excerpt(out, write, b, text, f.line, start);
-    put_caret(out, write, c, f.column)
+    put_heading(out, f.code, f.detail, f.found);
+    put_place(out, f.line, f.column);
+    put_excerpt(out, text, f.line, start);
+    put_caret(out, f.column);
+}
+
+// How many bytes the message of a failure has.
+pub fn message_size(text: &[u8], f: refusals::FailureRecord) -> usize
+    requires { Printable text.now f }
+    ensures { result ≡ length (message_in text.now f) }
+{
+    let mut count = Count { size: 0 };
+    print_message(&mut count, text, f);
+    count.size
+}
+
+// The message of a failure at the front of out; its length.
+pub fn put_message(out: &mut [u8], text: &[u8], f: refusals::FailureRecord) -> usize
+    requires printable { Printable text.now f }
+    requires f_in_bounds { length (message_in text.now f) ≤ length out.old }
+    ensures value { result ≡ length (message_in text.now f) }
+    ensures out_after { out.new ≡ sets out.old 0 (message_in text.now f) }
+{
+    let mut lent = Lent::new(out);
+    print_message(&mut lent, text, f);
+    lent.size()
 }

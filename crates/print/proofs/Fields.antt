@@ -1,17 +1,14 @@
--- Fields put one after another: the room that each finds, and what they make together.
+-- Fields printed one after another: the room that each finds, and the text that they make together.
 -- Assumes nothing.
-use Prim.Native.Nat.{ℕ, ◌+◌, ◌≤◌}
-use mathlib.Core.Path.{◌≡◌, refl, sym, ap, ◌∙◌}
-use mathlib.Core.Bool.{Bool, true}
+use Prim.Native.Nat.{ℕ, ◌+◌}
+use mathlib.Core.Path.{◌≡◌, refl, sym, ap, ◌∙◌, subst}
 use mathlib.Core.List.{List, [], ◌∷◌, ◌++◌, append_assoc, append-nil}
 use native.Mathlib.Omega.{arith}
 use lib.ListN.{length, length-append, replicate, length-replicate}
-use Rattle.laws.specs.Puts.{put_if}
-use Rattle.laws.proofs.Puts.{length_put_if, put_if_append, put_if-none}
 use Rattle.rules.specs.Lists.{concat}
 use Rattle.rules.specs.Report.{digits_in}
+use Rattle.print.specs.Printers.{PrinterLaws}
 use Rattle.print.proofs.Prints.{length_digits}
-use Rattle.print.specs.Fields.{Room, Put}
 
 pub concat-one : (x : List ℕ) → concat (x ∷ []) ≡ x
 unfolding concat
@@ -25,104 +22,53 @@ concat_append (x ∷ xs) ys = ap (λ (r : List ℕ). x ++ r) (concat_append xs y
 pub length_fields : (xs ys : List (List ℕ)) → length (concat (xs ++ ys)) ≡ length (concat xs) + length (concat ys)
 length_fields xs ys = ap length (concat_append xs ys) ∙ length-append (concat xs) (concat ys)
 
--- Several fields, and then more.
+module _ {P : Type 0} {fits : P → ℕ → Type 0} {prints : P → List ℕ → P → Type 0} (laws : PrinterLaws fits prints) where
+  pub fits_as : {p : P} {n k : ℕ} → n ≡ k → fits p n → fits p k
+  fits_as {p} e f = subst (fits p) e f
 
-pub room-front : {w : Bool} {out : List ℕ} {at : ℕ} (xs ys : List (List ℕ)) → Room w out at (xs ++ ys) → Room w out at xs
-room-front {w} {out} {at} xs ys r =
-    let l = length_fields xs ys in
-    record { small = omega (arith, r.small); fits = λ (h : w ≡ true). omega (arith, r.fits h) }
+  pub prints_as : {p q : P} {x y : List ℕ} → x ≡ y → prints p x q → prints p y q
+  prints_as {p} {q} e m = subst (λ (t : List ℕ). prints p t q) e m
 
--- past fields of this size, with out as long as before
-pub room-past : {w : Bool} {out : List ℕ} {at : ℕ} (xs ys : List (List ℕ)) {after : List ℕ} {next : ℕ}
-    → Room w out at (xs ++ ys) → next ≡ at + length (concat xs) → length after ≡ length out → Room w after next ys
-room-past {w} {out} {at} xs ys {after} {next} r size n =
-    let l = length_fields xs ys in
-    record { small = omega (arith, r.small, size); fits = λ (h : w ≡ true). omega (arith, r.fits h, size) }
+  -- One text, and then another.
 
-pub room_back : {w : Bool} {out : List ℕ} {at : ℕ} (xs ys : List (List ℕ)) {after : List ℕ} {next : ℕ}
-    → Room w out at (xs ++ ys) → Put w out at xs after next → Room w after next ys
-room_back {w} {out} {at} xs ys {after} {next} r p = room-past xs ys r p.size (ap length p.holds ∙ length_put_if w out at (concat xs))
+  pub fits_front : {p : P} (x y : List ℕ) → fits p (length (x ++ y)) → fits p (length x)
+  fits_front {p} x y f = laws.fewer p (length (x ++ y)) (length x) (omega (arith, length-append x y)) f
 
-pub put_both : {w : Bool} {out : List ℕ} {at : ℕ} {xs ys : List (List ℕ)} {after : List ℕ} {next : ℕ} {last : List ℕ} {end : ℕ}
-    → Put w out at xs after next → Put w after next ys last end → Put w out at (xs ++ ys) last end
-put_both {w} {out} {at} {xs} {ys} {after} {next} {last} {end} p q =
-    let l = length_fields xs ys in
-    record {
-      size = omega (arith, p.size, q.size);
-      holds = q.holds ∙ ap (λ (o : List ℕ). put_if w o next (concat ys)) p.holds ∙ put_if_append w out at next (concat xs) (concat ys) p.size
-          ∙ ap (put_if w out at) (sym (concat_append xs ys));
-    }
+  pub fits_back : {p q : P} (x y : List ℕ) → fits p (length (x ++ y)) → prints p x q → fits q (length y)
+  fits_back {p} {q} x y f m = laws.takes p q x (length y) m (fits_as (length-append x y) f)
 
--- One field, and then more.
+  -- One field, and then more.
 
-pub room-first : {w : Bool} {out : List ℕ} {at : ℕ} {x : List ℕ} {xs : List (List ℕ)} → Room w out at (x ∷ xs) → Room w out at (x ∷ [])
-room-first {x = x} {xs} r = room-front (x ∷ []) xs r
+  pub fits_first : {p : P} (x : List ℕ) (xs : List (List ℕ)) → fits p (length (concat (x ∷ xs))) → fits p (length x)
+  unfolding concat
+  fits_first x xs f = fits_front x (concat xs) f
 
-pub room_next : {w : Bool} {out : List ℕ} {at : ℕ} {x : List ℕ} {xs : List (List ℕ)} {after : List ℕ} {next : ℕ}
-    → Room w out at (x ∷ xs) → Put w out at (x ∷ []) after next → Room w after next xs
-room_next {x = x} {xs} r p = room_back (x ∷ []) xs r p
+  pub fits_next : {p q : P} (x : List ℕ) (xs : List (List ℕ)) → fits p (length (concat (x ∷ xs))) → prints p x q → fits q (length (concat xs))
+  unfolding concat
+  fits_next x xs f m = fits_back x (concat xs) f m
 
-pub put_then : {w : Bool} {out : List ℕ} {at : ℕ} {x : List ℕ} {xs : List (List ℕ)} {after : List ℕ} {next : ℕ} {last : List ℕ} {end : ℕ}
-    → Put w out at (x ∷ []) after next → Put w after next xs last end → Put w out at (x ∷ xs) last end
-put_then {x = x} {xs} p q = put_both {xs = x ∷ []} {ys = xs} p q
+  pub print_then : {p q r : P} (x : List ℕ) (xs : List (List ℕ)) → prints p x q → prints q (concat xs) r → prints p (concat (x ∷ xs)) r
+  unfolding concat
+  print_then {p} {q} {r} x xs m n = laws.joined p q r x (concat xs) m n
 
-pub put-none : {w : Bool} {out : List ℕ} {at : ℕ} → Put w out at [] out at
-unfolding concat
-put-none {w} {out} {at} = record { size = omega arith; holds = sym (put_if-none w out at) }
+  pub print_last : {p q : P} {x : List ℕ} → prints p x q → prints p (concat (x ∷ [])) q
+  print_last {x = x} m = prints_as (sym (concat-one x)) m
 
--- the same bytes in other fields
-pub put_as : {w : Bool} {out : List ℕ} {at : ℕ} {xs ys : List (List ℕ)} {after : List ℕ} {next : ℕ} → concat xs ≡ concat ys → Put w out at xs after next → Put w out at ys after next
-put_as {w} {out} {at} {xs} {ys} {after} {next} e p =
-    record { size = p.size ∙ ap (λ (f : List ℕ). at + length f) e; holds = p.holds ∙ ap (put_if w out at) e }
+  -- Several fields, and then more.
 
-pub room_as : {w : Bool} {out : List ℕ} {at : ℕ} {xs ys : List (List ℕ)} → concat xs ≡ concat ys → Room w out at xs → Room w out at ys
-room_as {w} {out} {at} {xs} {ys} e r =
-    let l : length (concat xs) ≡ length (concat ys) = ap length e in
-    record { small = omega (arith, r.small); fits = λ (h : w ≡ true). omega (arith, r.fits h) }
+  pub fields_front : {p : P} (xs ys : List (List ℕ)) → fits p (length (concat (xs ++ ys))) → fits p (length (concat xs))
+  fields_front xs ys f = fits_front (concat xs) (concat ys) (fits_as (ap length (concat_append xs ys)) f)
 
-pub field_as : {x y : List ℕ} → x ≡ y → concat (x ∷ []) ≡ concat (y ∷ [])
-field_as e = ap (λ (f : List ℕ). concat (f ∷ [])) e
+  pub fields_back : {p q : P} (xs ys : List (List ℕ)) → fits p (length (concat (xs ++ ys))) → prints p (concat xs) q → fits q (length (concat ys))
+  fields_back xs ys f m = fits_back (concat xs) (concat ys) (fits_as (ap length (concat_append xs ys)) f) m
 
--- What a call asks and gives, by the kind of field.
+  pub print_both : {p q r : P} (xs ys : List (List ℕ)) → prints p (concat xs) q → prints q (concat ys) r → prints p (concat (xs ++ ys)) r
+  print_both {p} {q} {r} xs ys m n = prints_as (sym (concat_append xs ys)) (laws.joined p q r (concat xs) (concat ys) m n)
 
-pub bytes-room : {w : Bool} {out : List ℕ} {at : ℕ} {x : List ℕ} → Room w out at (x ∷ []) → (at + length x ≤ 1_073_741_824) × (w ≡ true → at + length x ≤ length out)
-bytes-room {w} {x = x} r =
-    let l : length (concat (x ∷ [])) ≡ length x = ap length (concat-one x) in
-    (omega (arith, r.small), λ (h : w ≡ true). omega (arith, r.fits h))
+  -- What a call asks, by the kind of field.
 
-pub bytes-put : {w : Bool} {out : List ℕ} {at : ℕ} {x : List ℕ} {after : List ℕ} {next : ℕ} → (next ≡ at + length x) × (after ≡ put_if w out at x) → Put w out at (x ∷ []) after next
-bytes-put {w} {out} {at} {x} p =
-    let e : x ≡ concat (x ∷ []) = sym (concat-one x) in
-    record { size = p.0 ∙ ap (λ (f : List ℕ). at + length f) e; holds = p.1 ∙ ap (put_if w out at) e }
+  pub fill_fits : {p : P} (b n : ℕ) → fits p (length (replicate n b)) → fits p n
+  fill_fits b n f = fits_as (length-replicate n b) f
 
-pub decimal-room : {w : Bool} {out : List ℕ} {at : ℕ} {x : List ℕ} → Room w out at (x ∷ []) → (at ≤ 1_073_741_000) × (w ≡ true → at + length x ≤ length out)
-decimal-room r = (omega (arith, r.small), (bytes-room r).1)
-
-pub fill_room : {w : Bool} {out : List ℕ} {at : ℕ} (b n : ℕ) → Room w out at (replicate n b ∷ []) → (at + n ≤ 1_073_741_824) × (w ≡ true → at + n ≤ length out)
-fill_room {w} b n r =
-    let l : length (replicate n b) ≡ n = length-replicate n b in
-    (omega (arith, (bytes-room r).0), λ (h : w ≡ true). omega (arith, (bytes-room r).1 h))
-
-pub fill_put : {w : Bool} {out : List ℕ} {at : ℕ} (b n : ℕ) {after : List ℕ} {next : ℕ} → (next ≡ at + n) × (after ≡ put_if w out at (replicate n b)) → Put w out at (replicate n b ∷ []) after next
-fill_put b n p =
-    let l : length (replicate n b) ≡ n = length-replicate n b in
-    bytes-put (omega (arith, p.0), p.1)
-
-pub digits-room : {w : Bool} {out : List ℕ} {at : ℕ} (base places n : ℕ) → Room w out at (digits_in base places n [] ∷ [])
-    → (at + places ≤ 1_073_741_824) × (w ≡ true → at + places ≤ length out)
-digits-room {w} base places n r =
-    let l : length (digits_in base places n []) ≡ places + 0 = length_digits base places n [] in
-    (omega (arith, (bytes-room r).0), λ (h : w ≡ true). omega (arith, (bytes-room r).1 h))
-
-pub digits-put : {w : Bool} {out : List ℕ} {at : ℕ} (base places n : ℕ) {after : List ℕ} {next : ℕ} → (next ≡ at + places) × (after ≡ put_if w out at (digits_in base places n []))
-    → Put w out at (digits_in base places n [] ∷ []) after next
-digits-put base places n p =
-    let l : length (digits_in base places n []) ≡ places + 0 = length_digits base places n [] in
-    bytes-put (omega (arith, p.0), p.1)
-
--- the room after so many digits does not depend on which they are
-pub digits-past : {w : Bool} {out : List ℕ} {at : ℕ} (base places n : ℕ) {xs : List (List ℕ)} {after : List ℕ} {next : ℕ} → Room w out at (digits_in base places n [] ∷ xs)
-    → next ≡ at + places → length after ≡ length out → Room w after next xs
-digits-past {w} {out} {at} base places n {xs} r size same =
-    let l : length (concat (digits_in base places n [] ∷ [])) ≡ places + 0 = ap length (concat-one (digits_in base places n [])) ∙ length_digits base places n [] in
-    room-past (digits_in base places n [] ∷ []) xs r (omega arith) same
+  pub digits_fits : {p : P} (base places n : ℕ) → fits p (length (digits_in base places n [])) → fits p places
+  digits_fits base places n f = let l = length_digits base places n [] in fits_as (omega (arith, l)) f

@@ -1,1 +1,3 @@
-pub mod Fields
+pub mod Printers
+pub mod Counting
+pub mod Lending

@@ -1,55 +1,126 @@
-// Bytes written one field after another: each call answers where the next field begins. A pass that does not write only counts.
+// Bytes printed one field after another: counted, or written into a buffer that is lent. A text is printed by one function at every
+// printer. It is no `Display`: what `write!` promises holds of an answer `Ok` alone, and a count or a buffer that is long enough never fails.
 #![tactic(auto)]
 
-ghost use Rattle.std.specs.Prelude.{◌≡◌, true, [], ◌+◌, ◌≤◌, ◌<◌, length, replicate};
-ghost use Rattle.laws.specs.Puts.{put_if};
+ghost use Rattle.std.specs.Prelude.{◌≡◌, ℕ, [], ◌+◌, ◌-◌, ◌≤◌, ◌<◌, List, length, replicate};
 ghost use Rattle.rules.specs.Report.{digit, digits_in, places_from, decimal};
+ghost use Rattle.print.specs.Printers.{PrinterLaws};
 
-// These bytes.
-pub fn put_bytes(out: &mut [u8], write: bool, at: usize, bytes: &[u8]) -> usize
-    requires { (at + length bytes.now ≤ 1_073_741_824) × (write ≡ true → at + length bytes.now ≤ length out.old) }
-    ensures { (result ≡ at + length bytes.now) × (out.new ≡ put_if write out.old at bytes.now) }
-{
-    let next = at + bytes.len();
-    if !write {
-        return next;
-    }
-    let mut j: usize = 0;
-    while j < bytes.len() {
-        out[at + j] = bytes[j];
-        j += 1;
-    }
-    next
+// Where printed bytes go.
+pub trait Printer {
+    // so many bytes more fit
+    ghost fits: { Self → ℕ → Type 0 };
+
+    // the printer before, the bytes that are printed, and the printer after
+    ghost prints: { Self → List ℕ → Self → Type 0 };
+
+    ghost laws: { PrinterLaws fits prints };
+
+    // These bytes.
+    fn put_bytes(&mut self, bytes: &[u8])
+        requires { fits self.old (length bytes.now) }
+        ensures { prints self.old bytes.now self.new };
+
+    // One byte, so many times.
+    fn put_fill(&mut self, byte: u8, count: usize)
+        requires { fits self.old count }
+        ensures { prints self.old (replicate count byte) self.new };
+
+    // So many digits of a number, in base 10 or 16.
+    fn put_digits(&mut self, base: u32, places: usize, n: u32)
+        requires { (2 ≤ base) × (base ≤ 16) × fits self.old places }
+        ensures { prints self.old (digits_in base places n []) self.new };
 }
 
-// One byte, so many times.
-pub fn put_fill(out: &mut [u8], write: bool, at: usize, byte: u8, count: usize) -> usize
-    requires { (at + count ≤ 1_073_741_824) × (write ≡ true → at + count ≤ length out.old) }
-    ensures { (result ≡ at + count) × (out.new ≡ put_if write out.old at (replicate count byte)) }
-{
-    let next = at + count;
-    if !write {
-        return next;
+// Counts the bytes, and writes nothing.
+#[derive(Clone, Copy)]
+pub struct Count {
+    pub size: usize,
+}
+
+impl Printer for Count {
+    ghost use Rattle.print.specs.Printers.{count_fits, Counts};
+    ghost use Rattle.print.specs.Counting.{count_laws};
+
+    ghost fits = { count_fits };
+
+    ghost prints = { Counts };
+
+    ghost laws = { count_laws };
+
+    fn put_bytes(&mut self, bytes: &[u8]) {
+        self.size += bytes.len();
     }
-    let mut j: usize = 0;
-    while j < count {
-        out[at + j] = byte;
-        j += 1;
+
+    fn put_fill(&mut self, _byte: u8, count: usize) {
+        self.size += count;
     }
-    next
+
+    fn put_digits(&mut self, _base: u32, places: usize, _n: u32) {
+        self.size += places;
+    }
+}
+
+// Writes the bytes into a buffer: `size` of them stand at its front so far.
+#[derive(Drop)]
+pub struct Lent<'a> {
+    out: &'a mut [u8],
+    size: usize,
+}
+
+impl Printer for Lent<'_> {
+    ghost use Rattle.print.specs.Printers.{lent_fits, Writes};
+    ghost use Rattle.print.specs.Lending.{lent_laws};
+
+    ghost fits = { lent_fits };
+
+    ghost prints = { Writes };
+
+    ghost laws = { lent_laws };
+
+    fn put_bytes(&mut self, bytes: &[u8]) {
+        let next = self.size + bytes.len();
+        self.out[self.size..next].copy_from_slice(bytes);
+        self.size = next;
+    }
+
+    fn put_fill(&mut self, byte: u8, count: usize) {
+        let next = self.size + count;
+        self.out[self.size..next].fill(byte);
+        self.size = next;
+    }
+
+    fn put_digits(&mut self, base: u32, places: usize, n: u32) {
+        let next = self.size + places;
+        write_digits(&mut self.out[self.size..next], base, n);
+        self.size = next;
+    }
+}
+
+impl<'a> Lent<'a> {
+    pub fn new(out: &'a mut [u8]) -> Lent<'a>
+        ensures same { result.out.ghost_name ≡ out.entry.ghost_name }
+        ensures whole { result.out.now ≡ out.old }
+        ensures empty { result.size ≡ 0 }
+    {
+        Lent { out, size: 0 }
+    }
+
+    pub fn size(&self) -> usize
+        ensures { result ≡ self.now.size }
+    {
+        self.size
+    }
 }
 
 // How many decimal digits a number has.
 pub fn decimal_places(n: u32) -> usize
     ensures { result ≡ places_from n n }
 {
-    let mut rest = n;
-    let mut places: usize = 1;
-    while 10 <= rest {
-        rest = rest / 10;
-        places += 1;
+    match n.checked_ilog10() {
+        Some(k) => k as usize + 1,
+        None => 1,
     }
-    places
 }
 
 // A digit: 0 to 9, A to F.
@@ -63,30 +134,23 @@ fn digit_of(d: u32) -> u8
     (55 + d) as u8
 }
 
-// So many digits of a number, in base 10 or 16.
-pub fn put_digits(out: &mut [u8], write: bool, at: usize, base: u32, places: usize, n: u32) -> usize
-    requires { (2 ≤ base) × (base ≤ 16) × (at + places ≤ 1_073_741_824) × (write ≡ true → at + places ≤ length out.old) }
-    ensures { (result ≡ at + places) × (out.new ≡ put_if write out.old at (digits_in base places n [])) }
+// The last digits of a number, as many as stand in out. std's formatting writes all of them, so a field of four
+// digits would be longer for a number above 9999.
+fn write_digits(out: &mut [u8], base: u32, n: u32)
+    requires { (2 ≤ base) × (base ≤ 16) }
+    ensures { out.new ≡ digits_in base (length out.old) n [] }
 {
-    let next = at + places;
-    if !write {
-        return next;
-    }
-    let mut left = places;
     let mut rest = n;
-    while 0 < left {
-        left -= 1;
-        out[at + left] = digit_of(rest % base);
-        rest = rest / base;
+    for i in (0..out.len()).rev() {
+        out[i] = digit_of(rest % base);
+        rest /= base;
     }
-    next
 }
 
 // A number in decimal digits.
-pub fn put_decimal(out: &mut [u8], write: bool, at: usize, n: u32) -> usize
-    requires { (at ≤ 1_073_741_000) × (write ≡ true → at + length (decimal n) ≤ length out.old) }
-    ensures { (result ≡ at + length (decimal n)) × (out.new ≡ put_if write out.old at (decimal n)) }
+pub fn put_decimal<P: Printer>(out: &mut P, n: u32)
+    requires { P.fits out.old (length (decimal n)) }
+    ensures { P.prints out.old (decimal n) out.new }
 {
-    let places = decimal_places(n);
-    put_digits(out, write, at, 10, places, n)
+    out.put_digits(10, decimal_places(n), n);
 }

@@ -2,13 +2,12 @@
 -- Assumes nothing.
 use Prim.Native.Nat.{ℕ, ◌+◌, ◌*◌, ◌≤◌, ◌<◌}
 use mathlib.Core.Path.{◌≡◌, refl, sym, ap, ◌∙◌}
-use mathlib.Core.Bool.{true}
-use mathlib.Core.List.{List, [], ◌∷◌, ◌++◌, append-nil}
+use mathlib.Core.List.{List, [], ◌∷◌, ◌++◌}
 use native.Mathlib.Omega.{arith}
-use lib.ListN.{length, take, drop, length-append}
-use lib.Seq.{sets, length-take-le}
+use lib.ListN.{length, drop, length-append}
+use lib.Seq.{sets}
 use borrow.Author.Tests.{lt-ltb, le-ltb}
-use Rattle.rules.specs.Lists.{ascii, concat, overwrite}
+use Rattle.rules.specs.Lists.{ascii, overwrite}
 use Rattle.rules.specs.Limits.{barge_line}
 use Rattle.rules.specs.Replies.{too_long, malformed, lexical, at_line, first_of, unless, refused_if, numbered, numbered_unread, failure_words}
 use Rattle.rules.specs.Records.{token_size, Header, header, line_need, token_need, Records, record_tests, FreshReading, recorded, unread, fresh_reading}
@@ -20,10 +19,10 @@ use Rattle.rules.proofs.BoundLaws.{AllLe, word_max, fresh_small}
 use Rattle.refusals.specs.declared.FailureRecord.{FailureRecord}
 use Rattle.refusals.specs.declared.Unread.{Unread}
 use Rattle.refusals.specs.declared.Unread.TheVariants.{TooLong, Malformed, Fails, AtLine}
-use Rattle.refusals.specs.Unreads.{record_of, unread_of}
+use Rattle.refusals.specs.declared.Refusal.{Refusal}
+use Rattle.refusals.specs.declared.Refusal.TheVariants.{Reading, Short, Outside, Unfit}
+use Rattle.refusals.specs.Unreads.{record_of, buffer_number, refusal_of}
 use Rattle.copies.proofs.Joins.{front-over}
-use Rattle.print.specs.Fields.{Room, Put}
-use Rattle.print.proofs.Fields.{concat-one}
 use Rattle.message.proofs.Whole.{message_of_lem}
 use Rattle.message.specs.Messages.{message_in}
 use Rattle.report.proofs.Reports.{printable}
@@ -36,31 +35,20 @@ use Rattle.scanning.proofs.Sizes.{rows-small, refused-room, rows-room_in, messag
 abbrev pub Scanned : (t out : List ℕ) (r : ℕ) (O : List ℕ) → Type 0
 Scanned t out r O = (r ≡ length (scan_output t)) × (O ≡ overwrite (scan_output t) out)
 
-scanned : (t : List ℕ) {out : List ℕ} {xs : List (List ℕ)} {r : ℕ} {O : List ℕ} → Room true out 0 xs → concat xs ≡ scan_output t → Put true out 0 xs O r
-    → Scanned t out r O
-scanned t {out} {xs} m e p =
-    let l : length (concat xs) ≤ length out = omega (arith, m.fits refl) in
-    (omega (arith, p.size, ap length e), p.holds ∙ front-over out (concat xs) l ∙ ap (λ (s : List ℕ). overwrite s out) e)
-
--- it stands at the front of out
-pub scanned-front : (t out : List ℕ) {r : ℕ} {O : List ℕ} → Scanned t out r O → (r ≤ length O) × (r ≡ length (take r O))
-unfolding overwrite
-scanned-front t out {r} {O} s =
-    let l : r ≤ length O = omega (arith, s.0, ap length s.1, length-append (scan_output t) (drop (length (scan_output t)) out)) in
-    (l, sym (length-take-le r O l))
+scanned : (t out : List ℕ) {xs : List ℕ} {r : ℕ} {O : List ℕ} → length xs ≤ length out → xs ≡ scan_output t → r ≡ length xs → O ≡ sets out 0 xs → Scanned t out r O
+scanned t out {xs} l e v p = (v ∙ ap length e, p ∙ front-over out xs l ∙ ap (λ (s : List ℕ). overwrite s out) e)
 
 -- 1, for a text over 512 bytes
-long-row : (t : List ℕ) → 512 < length t → scan_output t ≡ concat (refused_row 1 ∷ [])
+long-row : (t : List ℕ) → 512 < length t → scan_output t ≡ refused_row 1
 unfolding scan_output
-long-row t h = rw (lt-ltb scan_bytes (length t) h) (sym (concat-one (refused_row 1)))
+long-row t h = rw (lt-ltb scan_bytes (length t) h) refl
 
-pub long_size : (t : List ℕ) → 512 < length t → length (scan_output t) ≡ length (concat (refused_row 1 ∷ []))
+pub long_size : (t : List ℕ) → 512 < length t → length (scan_output t) ≡ length (refused_row 1)
 long_size t h = ap length (long-row t h)
 
-pub long_over : (t out : List ℕ) → 512 < length t → 65_536 ≤ length out → overwrite (scan_output t) out ≡ sets out 0 (concat (refused_row 1 ∷ []))
+pub long_over : (t out : List ℕ) → 512 < length t → 65_536 ≤ length out → overwrite (scan_output t) out ≡ sets out 0 (refused_row 1)
 long_over t out h k =
-    let fits : length (concat (refused_row 1 ∷ [])) ≤ length out = omega (arith, (refused-room out 1 k (omega arith)).fits refl) in
-    ap (λ (s : List ℕ). overwrite s out) (long-row t h) ∙ sym (front-over out (concat (refused_row 1 ∷ [])) fits)
+    ap (λ (s : List ℕ). overwrite s out) (long-row t h) ∙ sym (front-over out (refused_row 1) (refused-room out 1 k (omega arith)))
 
 -- A text t of at most 512 bytes, and what `read` left of buffers L and T that hold its records.
 module _ (t L T : List ℕ) (small : length t ≤ 512) (hl : 10_773 ≤ length L) (ht : 5_120 ≤ length T) where
@@ -118,8 +106,25 @@ module _ (t L T : List ℕ) (small : length t ≤ 512) (hl : 10_773 ≤ length L
   short-never b v (unread (malformed n)) e h = omega (arith, ap length h)
   short-never b v (unread (at_line i l)) e h = omega (arith, ap length h)
 
-  pub never-short : (b v : ℕ) → 5 ∷ b ∷ v ∷ [] ≡ (read_into t L T).reply → ⊥
+  -- nor a number alone
+  never-alone : (number : ℕ) (x : FreshReading) → fresh_reading t ≡ x → number ∷ [] ≡ (filled_by L T x).reply → ⊥
+  unfolding filled_by numbered numbered_unread failure_words
+  never-alone number (recorded r) e h = omega (arith, ap length (h ∙ ap (λ (y : Filled). y.reply) (held r e).fills))
+  never-alone number (unread (lexical f)) e h = omega (arith, ap length h)
+  never-alone number (unread (too_long i n)) e h = omega (arith, ap length h)
+  never-alone number (unread (malformed n)) e h = omega (arith, ap length h)
+  never-alone number (unread (at_line i l)) e h = omega (arith, ap length h)
+
+  never-short : (b v : ℕ) → 5 ∷ b ∷ v ∷ [] ≡ (read_into t L T).reply → ⊥
   never-short b v h = short-never b v (fresh_reading t) refl (replied (fresh_reading t) refl (5 ∷ b ∷ v ∷ []) h)
+
+  -- nor does any other refusal but those of the text
+  pub never-refused : (r : Refusal) → ((u : Unread) → r ≡ Reading u → ⊥) → numbered (refusal_of r) ≡ (read_into t L T).reply → ⊥
+  unfolding numbered
+  never-refused (Reading u) k h = k u refl
+  never-refused (Short b n) k h = never-short (buffer_number b) n h
+  never-refused Outside k h = never-alone 6 (fresh_reading t) refl (replied (fresh_reading t) refl (6 ∷ []) h)
+  never-refused Unfit k h = never-alone 7 (fresh_reading t) refl (replied (fresh_reading t) refl (7 ∷ []) h)
 
   -- the records
   record Paged (n m k : ℕ) (T' : List ℕ) : Type 0 where
@@ -160,16 +165,16 @@ module _ (t L T : List ℕ) (small : length t ≤ 512) (hl : 10_773 ≤ length L
         let w : length page.records.tokens ≡ token_size * k = omega (arith, page.held-is.words, ap (λ (x : Header). x.k) page.head-is) in
         ap (token_rows k) page.tokens-are ∙ rows-front k page.records.tokens (drop (length page.records.tokens) T) w
 
-    page-is : concat (page_row (header n m k) ∷ token_rows k T' ∷ []) ≡ scan_output t
-    unfolding printed concat
+    page-is : page_row (header n m k) ++ token_rows k T' ≡ scan_output t
+    unfolding printed
     page-is =
-        ap (λ (s : List ℕ). page_row (header n m k) ++ s) (append-nil (token_rows k T') ∙ rows_are)
+        ap (λ (s : List ℕ). page_row (header n m k) ++ s) rows_are
         ∙ ap (λ (x : Header). page_row x ++ token_rows x.k page.records.tokens) (sym page.head-is)
         ∙ by-reading (recorded page.records) page.reading-is
 
-    pub page-room : {out : List ℕ} → 65_536 ≤ length out → ((n ≤ 512) × (m ≤ 512) × (k ≤ 1_024) × (token_size * k ≤ length T')) × Room true out 0 (page_row (header n m k) ∷ token_rows k T' ∷ [])
+    pub page-room : (out : List ℕ) → 65_536 ≤ length out → ((n ≤ 512) × (m ≤ 512) × (k ≤ 1_024) × (token_size * k ≤ length T')) × (length (page_row (header n m k) ++ token_rows k T') ≤ length out)
     unfolding overwrite
-    page-room {out} room =
+    page-room out room =
         let z = page.held-is in
         let r = page.records in
         let hn : n ≤ 512 = omega (arith, z.bytes, ap (λ (x : Header). x.n) page.head-is) in
@@ -182,8 +187,9 @@ module _ (t L T : List ℕ) (small : length t ≤ 512) (hl : 10_773 ≤ length L
           rows-room_in out n m k T' room hn hm hk s,
         )
 
-    pub page-scanned : {out : List ℕ} {r : ℕ} {O : List ℕ} → 65_536 ≤ length out → Put true out 0 (page_row (header n m k) ∷ token_rows k T' ∷ []) O r → Scanned t out r O
-    page-scanned room p = scanned t (page-room room).1 page-is p
+    pub page-scanned : (out : List ℕ) {r : ℕ} {O : List ℕ} → 65_536 ≤ length out → r ≡ length (page_row (header n m k) ++ token_rows k T')
+        → O ≡ sets out 0 (page_row (header n m k) ++ token_rows k T') → Scanned t out r O
+    page-scanned out room v p = scanned t out (page-room out room).1 page-is v p
 
   -- 3
   failing : (f : FailureRecord) (x : FreshReading) → fresh_reading t ≡ x → 3 ∷ failure_words (record_of f) ≡ (filled_by L T x).reply → fresh_reading t ≡ unread (lexical (record_of f))
@@ -208,8 +214,8 @@ module _ (t L T : List ℕ) (small : length t ≤ 512) (hl : 10_773 ≤ length L
   shows-refused number v h =
       sym (by-reading (fresh_reading t) refl) ∙ refused-is number v (fresh_reading t) refl (replied (fresh_reading t) refl (number ∷ v ∷ []) h)
 
-  pub shows : (u : Unread) → numbered_unread (unread_of u) ≡ (read_into t L T).reply → Shows t u
-  unfolding numbered_unread printed
+  pub shows : (u : Unread) → numbered (refusal_of (Reading u)) ≡ (read_into t L T).reply → Shows t u
+  unfolding numbered numbered_unread printed
   shows (TooLong number n) h = shows-refused number n h
   shows (Malformed n) h = shows-refused 2 n h
   shows (AtLine number l) h = shows-refused number l h
@@ -219,11 +225,10 @@ module _ (t L T : List ℕ) (small : length t ≤ 512) (hl : 10_773 ≤ length L
 
 -- What is put for a refusal.
 
-pub refused-scanned : (t : List ℕ) {out : List ℕ} {r : ℕ} {O : List ℕ} (number : ℕ) → 65_536 ≤ length out → number < 10_000_000_000 → scan_output t ≡ refused_row number
-    → Put true out 0 (refused_row number ∷ []) O r → Scanned t out r O
-refused-scanned t {out} number room k e p = scanned t (refused-room out number room k) (concat-one (refused_row number) ∙ sym e) p
+pub refused-scanned : (t out : List ℕ) {r : ℕ} {O : List ℕ} (number : ℕ) → 65_536 ≤ length out → number < 10_000_000_000 → scan_output t ≡ refused_row number
+    → r ≡ length (refused_row number) → O ≡ sets out 0 (refused_row number) → Scanned t out r O
+refused-scanned t out number room k e v p = scanned t out (refused-room out number room k) (sym e) v p
 
-pub failure-scanned : (t : List ℕ) {out : List ℕ} {r : ℕ} {O : List ℕ} (f : FailureRecord) → 65_536 ≤ length out → length t ≤ 512 → f.line < 10_000_000_000 → Shows t (Fails f)
-    → Put true out 0 (message_in t f ∷ ascii "\n" ∷ []) O r → Scanned t out r O
-unfolding concat
-failure-scanned t {out} f room small line s p = scanned t (message-room_in out t f room small s.0 line) (sym s.1) p
+pub failure-scanned : (t out : List ℕ) {r : ℕ} {O : List ℕ} (f : FailureRecord) → 65_536 ≤ length out → length t ≤ 512 → f.line < 10_000_000_000 → Shows t (Fails f)
+    → r ≡ length (message_in t f ++ ascii "\n") → O ≡ sets out 0 (message_in t f ++ ascii "\n") → Scanned t out r O
+failure-scanned t out f room small line s v p = scanned t out (message-room_in out t f room small s.0 line) (sym s.1) v p

@@ -1,8 +1,7 @@
 -- How long what `scan` prints can be: it stands in 65,536 bytes.
 -- Assumes nothing.
 use Prim.Native.Nat.{ℕ, zero, suc, ◌+◌, ◌-◌, ◌*◌, ◌≤◌, ◌<◌}
-use mathlib.Core.Path.{◌≡◌, ap, ◌∙◌}
-use mathlib.Core.Bool.{true}
+use mathlib.Core.Path.{ap}
 use mathlib.Core.List.{List, [], ◌∷◌, ◌++◌}
 use native.Mathlib.Omega.{arith}
 use lib.ListN.{length, get_or, drop, length-append}
@@ -13,8 +12,6 @@ use Rattle.rules.specs.Scan.{page_row, token_row, token_rows, refused_row}
 use Rattle.rules.proofs.BoundLaws.{AllLe, word_max}
 use Rattle.print.proofs.Prints.{places-le}
 use Rattle.refusals.specs.declared.FailureRecord.{FailureRecord}
-use Rattle.print.specs.Fields.{Room}
-use Rattle.print.proofs.Fields.{concat-one}
 use Rattle.print.proofs.Prints.{length_decimal}
 use Rattle.message.proofs.Whole.{message-fields, fields-small}
 use Rattle.message.specs.Messages.{message_in, Printable}
@@ -62,25 +59,14 @@ message-small t f h p l =
 
 -- Room in 65,536 bytes.
 
-room_in : (out : List ℕ) (xs : List (List ℕ)) → 65_536 ≤ length out → length (concat xs) ≤ 65_536 → Room true out 0 xs
-room_in out xs h l = record { small = omega arith; fits = λ (_ : true ≡ true). omega arith }
-
-length_one : (x : List ℕ) → length (concat (x ∷ [])) ≡ length x
-length_one x = ap length (concat-one x)
-
-length_two : (x y : List ℕ) → length (concat (x ∷ y ∷ [])) ≡ length x + length y
-unfolding concat
-length_two x y = length-append x (y ++ []) ∙ ap (λ (n : ℕ). length x + n) (length_one y)
-
-pub refused-room : (out : List ℕ) (number : ℕ) → 65_536 ≤ length out → number < 10_000_000_000 → Room true out 0 (refused_row number ∷ [])
-refused-room out number h k = room_in out (refused_row number ∷ []) h (omega (arith, length_one (refused_row number), refused-small number k))
+pub refused-room : (out : List ℕ) (number : ℕ) → 65_536 ≤ length out → number < 10_000_000_000 → length (refused_row number) ≤ length out
+refused-room out number h k = omega (arith, refused-small number k)
 
 pub rows-room_in : (out : List ℕ) (n m k : ℕ) (ws : List ℕ) → 65_536 ≤ length out → n ≤ 512 → m ≤ 512 → k ≤ 1_024 → length (token_rows k ws) ≤ 57 * k
-    → Room true out 0 (page_row (header n m k) ∷ token_rows k ws ∷ [])
+    → length (page_row (header n m k) ++ token_rows k ws) ≤ length out
 rows-room_in out n m k ws h hn hm hk l =
-    room_in out (page_row (header n m k) ∷ token_rows k ws ∷ []) h (omega (arith, length_two (page_row (header n m k)) (token_rows k ws), page-small n m k hn hm hk))
+    omega (arith, length-append (page_row (header n m k)) (token_rows k ws), page-small n m k hn hm hk)
 
 pub message-room_in : (out t : List ℕ) (f : FailureRecord) → 65_536 ≤ length out → length t ≤ 512 → Printable t f → f.line < 10_000_000_000
-    → Room true out 0 (message_in t f ∷ ascii "\n" ∷ [])
-message-room_in out t f h small p l =
-    room_in out (message_in t f ∷ ascii "\n" ∷ []) h (omega (arith, length_two (message_in t f) (ascii "\n"), message-small t f small p l))
+    → length (message_in t f ++ ascii "\n") ≤ length out
+message-room_in out t f h small p l = omega (arith, length-append (message_in t f) (ascii "\n"), message-small t f small p l)

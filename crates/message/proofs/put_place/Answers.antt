@@ -1,21 +1,26 @@
 -- `message::put_place` meets its contract.
-use Rattle.print.proofs.Fields.{bytes-put, bytes-room, decimal-room, put_then, room-first, room_next}
+use Rattle.print.proofs.Fields.{fits_first, fits_next, print_then, print_last}
 use Rattle.message.proofs.put_place.Goals as goal
 
-pub put_bytes-a-requires : goal.put_bytes-a-requires
-put_bytes-a-requires c = bytes-room (room-first c.requires)
-
-pub put_decimal-b-requires : goal.put_decimal-b-requires
-put_decimal-b-requires c = decimal-room (room-first (room_next c.requires (bytes-put c.put_bytes-a.ensures)))
-
-pub put_bytes-c-requires : goal.put_bytes-c-requires
-put_bytes-c-requires c =
-    bytes-room (room-first (room_next (room_next c.requires (bytes-put c.put_bytes-a.ensures)) (bytes-put c.put_decimal-b.ensures)))
+pub put_bytes-requires : goal.put_bytes-requires
+put_bytes-requires g c = fits_first g.P.Printer.laws _ _ c.requires
 
 pub put_decimal-requires : goal.put_decimal-requires
-put_decimal-requires c =
-    decimal-room (room_next (room_next (room_next c.requires (bytes-put c.put_bytes-a.ensures)) (bytes-put c.put_decimal-b.ensures)) (bytes-put c.put_bytes-c.ensures))
+put_decimal-requires g c =
+    let L = g.P.Printer.laws in
+    fits_first L _ _ (fits_next L _ _ c.requires c.put_bytes.ensures)
+
+pub put_bytes-requires-2 : goal.put_bytes-requires-2
+put_bytes-requires-2 g c =
+    let L = g.P.Printer.laws in
+    fits_first L _ _ (fits_next L _ _ (fits_next L _ _ c.requires c.put_bytes.ensures) c.put_decimal.ensures)
+
+pub put_decimal-requires-2 : goal.put_decimal-requires-2
+put_decimal-requires-2 g c =
+    let L = g.P.Printer.laws in
+    fits_first L _ _ (fits_next L _ _ (fits_next L _ _ (fits_next L _ _ c.requires c.put_bytes.ensures) c.put_decimal.ensures) c.put_bytes-2.ensures)
 
 pub returns : goal.returns
-returns c =
-    put_then (bytes-put c.put_bytes-a.ensures) (put_then (bytes-put c.put_decimal-b.ensures) (put_then (bytes-put c.put_bytes-c.ensures) (bytes-put c.put_decimal.ensures)))
+returns g c =
+    let L = g.P.Printer.laws in
+    print_then L _ _ c.put_bytes.ensures (print_then L _ _ c.put_decimal.ensures (print_then L _ _ c.put_bytes-2.ensures (print_last L c.put_decimal-2.ensures)))

@@ -1,13 +1,11 @@
--- `print::decimal_places` meets its contract. What is left has as many places as are to be counted.
+-- `print::decimal_places` meets its contract.
+use mathlib.Core.Path.{sym}
 use native.Mathlib.Omega.{arith}
-use Rattle.print.proofs.Prints.{places-one, places-more, places-le}
+use Rattle.print.proofs.Prints.{places-one, places-at}
 use Rattle.print.proofs.decimal_places.Goals as goal
 
-pub overflow_add-places : goal.overflow_add-places
-overflow_add-places c = omega (arith, places-le 9 c.args.n c.args.n (omega arith))
+pub returns-in-Some : goal.returns-in-Some
+returns-in-Some c = places-at c.in-Some.k c.args.n c.in-Some.ensures.power_le c.in-Some.ensures.next_power_gt
 
-pub loop-rest-preserved : goal.loop-rest-preserved
-loop-rest-preserved c = omega (arith, places-more c.loop-rest.rest c.loop-rest-test.true)
-
-pub returns : goal.returns
-returns c = omega (arith, places-one c.loop-rest.rest (omega arith))
+pub returns-in-None : goal.returns-in-None
+returns-in-None c = sym (places-one c.args.n (omega (arith, c.in-None.ensures.none)))

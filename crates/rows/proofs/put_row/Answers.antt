@@ -1,57 +1,41 @@
 -- `rows::put_row` meets its contract.
-use mathlib.Core.Path.{sym}
-use Rattle.print.proofs.Fields.{bytes-room, bytes-put, room_as, put_as}
-use Rattle.rows.proofs.Rows.{room-pair, room-past, put-pair, token-fields}
+use mathlib.Core.Path.{sym, ap}
+use lib.ListN.{length}
+use Rattle.print.proofs.Fields.{fits_as, fits_first, fits_next, prints_as, print_then, print_last}
+use Rattle.rows.proofs.Rows.{token-fields}
 use Rattle.rows.proofs.put_row.Goals as goal
 
-pub put_labelled-a-requires : goal.put_labelled-a-requires
-put_labelled-a-requires c =
-    let r0 = room_as (token-fields c.args.words.now) c.requires.1 in
-    room-pair r0
+pub put_labelled-requires : goal.put_labelled-requires
+put_labelled-requires g c =
+    let L = g.P.Printer.laws in
+    fits_first L _ _ (fits_as L (ap length (token-fields c.args.record.now)) c.requires)
 
-pub put_labelled-b-requires : goal.put_labelled-b-requires
-put_labelled-b-requires c =
-    let r0 = room_as (token-fields c.args.words.now) c.requires.1 in
-    let r1 = room-past r0 c.put_labelled-a.ensures in
-    room-pair r1
+pub put_labelled-requires-2 : goal.put_labelled-requires-2
+put_labelled-requires-2 g c =
+    let L = g.P.Printer.laws in
+    fits_first L _ _ (fits_next L _ _ (fits_as L (ap length (token-fields c.args.record.now)) c.requires) c.put_labelled.ensures)
 
-pub put_labelled-c-requires : goal.put_labelled-c-requires
-put_labelled-c-requires c =
-    let r0 = room_as (token-fields c.args.words.now) c.requires.1 in
-    let r1 = room-past r0 c.put_labelled-a.ensures in
-    let r2 = room-past r1 c.put_labelled-b.ensures in
-    room-pair r2
+pub put_labelled-requires-3 : goal.put_labelled-requires-3
+put_labelled-requires-3 g c =
+    let L = g.P.Printer.laws in
+    fits_first L _ _ (fits_next L _ _ (fits_next L _ _ (fits_as L (ap length (token-fields c.args.record.now)) c.requires) c.put_labelled.ensures) c.put_labelled-2.ensures)
 
-pub put_labelled-d-requires : goal.put_labelled-d-requires
-put_labelled-d-requires c =
-    let r0 = room_as (token-fields c.args.words.now) c.requires.1 in
-    let r1 = room-past r0 c.put_labelled-a.ensures in
-    let r2 = room-past r1 c.put_labelled-b.ensures in
-    let r3 = room-past r2 c.put_labelled-c.ensures in
-    room-pair r3
+pub put_labelled-requires-4 : goal.put_labelled-requires-4
+put_labelled-requires-4 g c =
+    let L = g.P.Printer.laws in
+    fits_first L _ _ (fits_next L _ _ (fits_next L _ _ (fits_next L _ _ (fits_as L (ap length (token-fields c.args.record.now)) c.requires) c.put_labelled.ensures) c.put_labelled-2.ensures) c.put_labelled-3.ensures)
 
-pub put_labelled-e-requires : goal.put_labelled-e-requires
-put_labelled-e-requires c =
-    let r0 = room_as (token-fields c.args.words.now) c.requires.1 in
-    let r1 = room-past r0 c.put_labelled-a.ensures in
-    let r2 = room-past r1 c.put_labelled-b.ensures in
-    let r3 = room-past r2 c.put_labelled-c.ensures in
-    let r4 = room-past r3 c.put_labelled-d.ensures in
-    room-pair r4
+pub put_labelled-requires-5 : goal.put_labelled-requires-5
+put_labelled-requires-5 g c =
+    let L = g.P.Printer.laws in
+    fits_first L _ _ (fits_next L _ _ (fits_next L _ _ (fits_next L _ _ (fits_next L _ _ (fits_as L (ap length (token-fields c.args.record.now)) c.requires) c.put_labelled.ensures) c.put_labelled-2.ensures) c.put_labelled-3.ensures) c.put_labelled-4.ensures)
 
 pub put_bytes-requires : goal.put_bytes-requires
-put_bytes-requires c =
-    let r0 = room_as (token-fields c.args.words.now) c.requires.1 in
-    let r1 = room-past r0 c.put_labelled-a.ensures in
-    let r2 = room-past r1 c.put_labelled-b.ensures in
-    let r3 = room-past r2 c.put_labelled-c.ensures in
-    let r4 = room-past r3 c.put_labelled-d.ensures in
-    bytes-room (room-past r4 c.put_labelled-e.ensures)
+put_bytes-requires g c =
+    let L = g.P.Printer.laws in
+    fits_first L _ _ (fits_next L _ _ (fits_next L _ _ (fits_next L _ _ (fits_next L _ _ (fits_next L _ _ (fits_as L (ap length (token-fields c.args.record.now)) c.requires) c.put_labelled.ensures) c.put_labelled-2.ensures) c.put_labelled-3.ensures) c.put_labelled-4.ensures) c.put_labelled-5.ensures)
 
 pub returns : goal.returns
-returns c =
-    let p5 = put-pair c.put_labelled-e.ensures (bytes-put c.put_bytes.ensures) in
-    let p4 = put-pair c.put_labelled-d.ensures p5 in
-    let p3 = put-pair c.put_labelled-c.ensures p4 in
-    let p2 = put-pair c.put_labelled-b.ensures p3 in
-    put_as (sym (token-fields c.args.words.now)) (put-pair c.put_labelled-a.ensures p2)
+returns g c =
+    let L = g.P.Printer.laws in
+    prints_as L (sym (token-fields c.args.record.now)) (print_then L _ _ c.put_labelled.ensures (print_then L _ _ c.put_labelled-2.ensures (print_then L _ _ c.put_labelled-3.ensures (print_then L _ _ c.put_labelled-4.ensures (print_then L _ _ c.put_labelled-5.ensures (print_last L c.put_bytes.ensures))))))
