@@ -1,69 +1,41 @@
-// Digests of buffers, 64-bit FNV-1a, and the fields that spell them.
+// Digests of buffers, 64-bit FNV-1a.
+ghost use Rattle.std.specs.Prelude.{◌≡◌};
+ghost use Rattle.std.specs.List.{flat_map};
+ghost use Rattle.replay.specs.Fnv.{fnv_basis, fnv_step, fnv};
+
+use crate::units::Unit;
 
 // The digest of nothing.
 const NOTHING: u64 = 0xCBF2_9CE4_8422_2325;
 
-// The product with the prime of FNV-1a, 2^40 + 435, modulo 2^64.
-fn times_prime(x: u64) -> u64 {
-    let low = x % 4_294_967_296 * 435;
-    let high = x / 4_294_967_296 * 435 % 4_294_967_296 * 4_294_967_296;
-    let far = x % 16_777_216 * 1_099_511_627_776;
-    low.wrapping_add(high).wrapping_add(far)
-}
+// The prime of FNV-1a.
+const PRIME: u64 = 0x0000_0100_0000_01B3;
 
-// A digest with one byte more.
-fn with_byte(digest: u64, b: u8) -> u64 {
-    times_prime(digest ^ (b as u64))
-}
+// The digest of what was put into it.
+#[derive(Clone, Copy)]
+pub struct Digest(pub u64);
 
-// A digest with these bytes more.
-fn with_bytes(digest: u64, bytes: &[u8]) -> u64 {
-    let mut d = digest;
-    let mut i: usize = 0;
-    while i < bytes.len() {
-        d = with_byte(d, bytes[i]);
-        i += 1;
+impl Digest {
+    // Of nothing.
+    pub fn new() -> Digest
+        ensures { result.0 ≡ fnv_basis }
+    {
+        Digest(NOTHING)
     }
-    d
-}
 
-// A digest with one word more, lowest byte first.
-fn with_word(digest: u64, word: u32) -> u64 {
-    let first = with_byte(digest, (word % 256) as u8);
-    let second = with_byte(first, (word / 256 % 256) as u8);
-    let third = with_byte(second, (word / 65_536 % 256) as u8);
-    with_byte(third, (word / 16_777_216) as u8)
-}
-
-// A digest with these words more.
-fn with_words(digest: u64, words: &[u32]) -> u64 {
-    let mut d = digest;
-    let mut i: usize = 0;
-    while i < words.len() {
-        d = with_word(d, words[i]);
-        i += 1;
+    // With one byte more.
+    pub fn with_byte(self, byte: u8) -> Digest
+        ensures { result.0 ≡ fnv_step self.0 byte }
+    {
+        Digest((self.0 ^ u64::from(byte)).wrapping_mul(PRIME))
     }
-    d
-}
 
-// The digest of whole buffers.
-pub fn page_digest(text: &[u8], spare: &[u8], lines: &[u32], tokens: &[u32]) -> u64 {
-    let bytes = with_bytes(with_bytes(NOTHING, text), spare);
-    with_words(with_words(bytes, lines), tokens)
-}
-
-// Past the field after `at`, where it spells the digest of these bytes; where the line has them.
-pub fn past_byte_digest(line: &[u8], at: usize, has: bool, bytes: &[u8]) -> usize {
-    if !has {
-        return at;
+    // With what a buffer holds.
+    pub fn with<T: Unit>(self, units: &[T]) -> Digest
+        ensures { result.0 ≡ fnv self.0 (flat_map T.bytes units.now) }
+    {
+        units
+            .iter()
+            .fold(self, |digest, unit| unit.digested(digest))
     }
-    crate::fields::past_number(line, at, with_bytes(NOTHING, bytes))
-}
-
-// Past the field after `at`, where it spells the digest of these words; where the line has them.
-pub fn past_word_digest(line: &[u8], at: usize, has: bool, words: &[u32]) -> usize {
-    if !has {
-        return at;
-    }
-    crate::fields::past_number(line, at, with_words(NOTHING, words))
 }

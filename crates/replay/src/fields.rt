@@ -1,164 +1,200 @@
-// Fields of recorded lists, in the format of oracle/README.md: numbers read, and numbers that must be the code's. A position in a line is the
-// end of the fields that agree so far, or MISMATCH, which lies past every line.
-ghost use Rattle.std.specs.Prelude.{◌≡◌, ◌≤◌, ◌↔◌, IsTrue, length};
+// The fields of a line of a recorded list, in the format of oracle/README.md, read one after the other.
+ghost use Rattle.std.specs.Prelude.{◌≡◌, ◌↔◌, ◌<◌, ◌^◌, ℕ, List, Ok, Some, None, IsTrue, IsOk, IsNone, IfOk, MatchOption, MatchResult, replicate};
 ghost use Rattle.std.specs.Fmt.{decimal};
+ghost use Rattle.std.specs.Str.{IsUtf8};
+ghost use Rattle.std.specs.Fn.{FnOnceReturnsAtMut};
+ghost use Rattle.replay.specs.Fields.{left, next_field, after_field};
+ghost use Rattle.replay.specs.Units.{SpellsBytes, SpellsAll};
 
+use crate::Failure;
+use crate::digests::Digest;
+use crate::units::{Unit, put_run, put_units};
 use itoa::Buffer;
+use std::alloc::Global;
 
-// The position after a field that differs.
-pub const MISMATCH: usize = 0xFFFF_FFFF_FFFF_FFFF;
-
-// What a word holds before a call.
+// What a word of a reply holds before a call.
 pub const FILL: u64 = 0xAAAA_AAAA;
 
-// What a field counts that spells no number; more than any buffer has room for.
-const UNSPELLED: u64 = 0xFFFF_FFFF_FFFF_FFFF;
-
-// A number with one digit more, where it is one and there is room for it.
-fn with_digit(value: u64, b: u8) -> u64 {
-    if b < 48 {
-        return 0;
-    }
-    if 57 < b {
-        return 0;
-    }
-    if 1_844_674_407_370_955_161 < value {
-        return 0;
-    }
-    (10 * value).wrapping_add((b - 48) as u64)
+// What a call replies: how many words, at the front of all of them.
+#[derive(Clone, Copy, Debug, PartialEq, Eq)]
+pub struct Reply {
+    pub words: [u64; 16],
+    pub count: u64,
 }
 
-// The number that a field spells in decimal; any where it spells none below 2^64.
-fn number(field: &[u8]) -> u64 {
-    let mut value: u64 = 0;
-    let mut i: usize = 0;
-    while i < field.len() {
-        value = with_digit(value, field[i]);
-        i += 1;
+impl Reply {
+    // That of this call.
+    pub fn of<F: FnOnce(&mut [u64; 16]) -> u64>(call: F) -> Reply
+        requires { F.IsAlwaysCallable call }
+        ensures { FnOnceReturnsAtMut F.FnOnce call (replicate 16 FILL) result.count result.words }
+    {
+        let mut words = [FILL; 16];
+        let count = call(&mut words);
+        Reply { words, count }
     }
-    value
 }
 
 // A field spells this number in decimal.
-fn spelled(field: &[u8], value: u64) -> bool
+fn spelled(field: &str, value: u64) -> bool
     ensures { IsTrue result ↔ (field.now ≡ decimal value) }
 {
     let mut digits = Buffer::new();
-    field == digits.format(value).as_bytes()
+    field == digits.format(value)
 }
 
-// The number that a field spells, or UNSPELLED.
-pub fn spelled_number(field: &[u8]) -> u64 {
-    let value = number(field);
-    if !spelled(field, value) {
-        return UNSPELLED;
-    }
-    value
-}
-
-// Where this byte stands first, from `from` on, or the end.
-pub fn find(bytes: &[u8], from: usize, byte: u8) -> usize
-    requires { from ≤ length bytes.now }
-    ensures { (from ≤ result) × (result ≤ length bytes.now) }
+// The number that a field spells in decimal.
+pub fn number(field: &str) -> Result<u64, Failure>
+    ensures spelled { IfOk result (λ value. field.now ≡ decimal value) }
+    ensures all_spelled { (value : ℕ) → value < 2 ^ 64 → field.now ≡ decimal value → result ≡ Ok value }
 {
-    search::find_byte(bytes, from, byte)
+    match field.parse::<u64>() {
+        Ok(value) if spelled(field, value) => Ok(value),
+        _ => Err(Failure::Differs),
+    }
 }
 
-// Where the field that begins at `from` ends.
-pub fn field_end(case: &[u8], from: usize) -> usize
-    requires { from ≤ length case.now }
-    ensures { (from ≤ result) × (result ≤ length case.now) }
-{
-    find(case, from, 32)
+// What is left of a line; no field where it is read to its end.
+#[derive(Drop)]
+pub struct Fields<'a> {
+    pub rest: Option<&'a str>,
 }
 
-// Past the field after `at`.
-pub fn past_field(line: &[u8], at: usize) -> usize {
-    if line.len() <= at {
-        return MISMATCH;
+impl<'a> Fields<'a> {
+    // Those of a line, where it is text.
+    pub fn new(line: &'a [u8]) -> Option<Fields<'a>>
+        ensures { MatchOption result (¬ (IsUtf8 line.now)) (λ fields. left fields ≡ Some line.now) }
+    {
+        Some(Fields {
+            rest: Some(str::from_utf8(line).ok()?),
+        })
     }
-    field_end(line, at + 1)
-}
 
-// The number in the field after `at`.
-pub fn number_after(case: &[u8], at: usize) -> u64 {
-    if case.len() <= at {
-        return 0;
+    // The next field.
+    pub fn next(&mut self) -> Result<&'a str, Failure>
+        ensures field { MatchResult result (λ field. next_field (left self.old) ≡ Some field.now) (λ _. next_field (left self.old) ≡ None) }
+        ensures rest { left self.new ≡ after_field (left self.old) }
+    {
+        let rest = self.rest.ok_or(Failure::Differs)?;
+        match rest.split_once(' ') {
+            Some((field, after)) => {
+                self.rest = Some(after);
+                Ok(field)
+            }
+            None => {
+                self.rest = None;
+                Ok(rest)
+            }
+        }
     }
-    let from = at + 1;
-    let end = field_end(case, from);
-    number(&case[from..end])
-}
 
-// The numbers of as many fields after `at`: the position behind them.
-fn hold_fields(line: &[u8], at: usize, numbers: &mut [u64]) -> usize {
-    let mut p = at;
-    let mut i: usize = 0;
-    while i < numbers.len() {
-        let value = number_after(line, p);
-        numbers[i] = value;
-        p = past_number(line, p, value);
-        i += 1;
+    // No field is left.
+    pub fn expect_end(&self) -> Result<(), Failure>
+        ensures { IsOk result ↔ (left self.now ≡ None) }
+    {
+        match self.rest {
+            Some(_) => Err(Failure::Differs),
+            None => Ok(()),
+        }
     }
-    p
-}
 
-// The numbers of the group after `at`, at the front: the position behind it.
-pub fn hold_numbers(line: &[u8], at: usize, numbers: &mut [u64]) -> usize {
-    let count = number_after(line, at);
-    if (numbers.len() as u64) < count {
-        return MISMATCH;
+    // The number that the next field spells.
+    pub fn number(&mut self) -> Result<u64, Failure>
+        ensures spelled { IfOk result (λ value. next_field (left self.old) ≡ Some (decimal value)) }
+        ensures all_spelled { (value : ℕ) → value < 2 ^ 64 → next_field (left self.old) ≡ Some (decimal value) → result ≡ Ok value }
+        ensures rest { left self.new ≡ after_field (left self.old) }
+    {
+        number(self.next()?)
     }
-    let p = past_number(line, at, count);
-    hold_fields(line, p, &mut numbers[..count as usize])
-}
 
-// Past the field after `at`, where it spells this number.
-pub fn past_number(case: &[u8], at: usize, value: u64) -> usize {
-    if case.len() <= at {
-        return MISMATCH;
+    // The next field spells this number.
+    pub fn expect_number(&mut self, value: u64) -> Result<(), Failure>
+        ensures spelled { IsOk result ↔ (next_field (left self.old) ≡ Some (decimal value)) }
+        ensures rest { left self.new ≡ after_field (left self.old) }
+    {
+        if spelled(self.next()?, value) {
+            Ok(())
+        } else {
+            Err(Failure::Differs)
+        }
     }
-    let from = at + 1;
-    let end = field_end(case, from);
-    if !spelled(&case[from..end], value) {
-        return MISMATCH;
-    }
-    end
-}
 
-// Past the field after `at`, where it spells a word that is counted; a word that is not counted must be as it was before the call.
-fn past_word(case: &[u8], at: usize, word: u64, counted: bool) -> usize {
-    if counted {
-        return past_number(case, at, word);
+    // The numbers of a group.
+    pub fn numbers(&mut self, alloc: Global) -> Result<Vec<u64>, Failure> {
+        let mut numbers = Vec::new(alloc);
+        for _ in 0..self.number()? {
+            numbers.push(self.number()?)?;
+        }
+        Ok(numbers)
     }
-    if word != FILL {
-        return MISMATCH;
-    }
-    at
-}
 
-// Past the group after `at`, where it spells the front of these words.
-pub fn past_words(case: &[u8], at: usize, words: &[u32]) -> usize {
-    let count = number_after(case, at);
-    if (words.len() as u64) < count {
-        return MISMATCH;
+    // The bytes that the next field spells in hex.
+    pub fn bytes(&mut self, alloc: Global) -> Result<Vec<u8>, Failure>
+        ensures spelled { IfOk result (λ bytes. (field : List ℕ) × (next_field (left self.old) ≡ Some field) × SpellsAll SpellsBytes field bytes.items) }
+        ensures rest { left self.new ≡ after_field (left self.old) }
+    {
+        let mut bytes = Vec::new(alloc);
+        put_units(self.next()?, &mut bytes)?;
+        Ok(bytes)
     }
-    let mut p = past_number(case, at, count);
-    let mut i: usize = 0;
-    while i < words.len() {
-        p = past_word(case, p, words[i] as u64, (i as u64) < count);
-        i += 1;
-    }
-    p
-}
 
-// Past the group after `at`, where it spells these words of a reply.
-pub fn past_reply(case: &[u8], at: usize, reply: &[u64; 16], count: u64) -> usize {
-    let mut p = past_number(case, at, count);
-    let mut i: usize = 0;
-    while i < 16 {
-        p = past_word(case, p, reply[i], (i as u64) < count);
-        i += 1;
+    // The bytes or words of the run that the next field spells, put behind the others.
+    pub fn run<T: Unit>(&mut self, units: &mut Vec<T>) -> Result<(), Failure> {
+        put_run(self.next()?, units)
     }
-    p
+
+    // The buffer that the next field spells, in runs with commas between.
+    fn buffer<T: Unit>(&mut self, alloc: Global) -> Result<Vec<T>, Failure> {
+        let mut units = Vec::new(alloc);
+        for run in self.next()?.split(',') {
+            put_run(run, &mut units)?;
+        }
+        Ok(units)
+    }
+
+    // The buffers of a group.
+    pub fn buffers<T: Unit>(&mut self, alloc: Global) -> Result<Vec<Vec<T>>, Failure> {
+        let mut buffers = Vec::new(alloc);
+        for _ in 0..self.number()? {
+            buffers.push(self.buffer(alloc)?)?;
+        }
+        Ok(buffers)
+    }
+
+    // The next fields spell the digests of these buffers.
+    pub fn expect_digests<T: Unit>(&mut self, buffers: &[Vec<T>]) -> Result<(), Failure> {
+        for buffer in buffers {
+            self.expect_number(Digest::new().with(buffer.as_slice()).0)?;
+        }
+        Ok(())
+    }
+
+    // The next fields spell the first `count` of these; the others are as they were before the call.
+    fn expect_front<T: Copy + Into<u64>>(
+        &mut self,
+        values: &[T],
+        count: u64,
+    ) -> Result<(), Failure> {
+        let (front, others) = values
+            .split_at_checked(count as usize)
+            .ok_or(Failure::Differs)?;
+        for value in front {
+            self.expect_number((*value).into())?;
+        }
+        if others.iter().any(|value| (*value).into() != FILL) {
+            return Err(Failure::Differs);
+        }
+        Ok(())
+    }
+
+    // The next group spells the front of these words.
+    pub fn expect_words(&mut self, words: &[u32]) -> Result<(), Failure> {
+        let count = self.number()?;
+        self.expect_front(words, count)
+    }
+
+    // The next group spells this reply.
+    pub fn expect_reply(&mut self, reply: &Reply) -> Result<(), Failure> {
+        self.expect_number(reply.count)?;
+        self.expect_front(reply.words.as_slice(), reply.count)
+    }
 }

@@ -1,87 +1,182 @@
-// The lines of a recorded list, one after another, and how many of them agree with the code.
+// Recorded lists held against the code, a case on each line: how many of them agree.
 #![tactic(auto)]
 
-ghost use Rattle.std.specs.Prelude.{◌≡◌, ◌+◌, ◌≤◌, length};
+ghost use Rattle.std.specs.Prelude.{◌≡◌, ◌+◌, ◌<◌, ◌^◌, if◌then◌else◌, None, Some};
+ghost use Rattle.std.specs.Option.{option_or};
+ghost use Rattle.replay.specs.declared.Failure.TheVariants.{OutOfMemory};
 
-pub mod buffers;
 pub mod digests;
 pub mod fields;
 pub mod input;
-pub mod recorded_calls;
-pub mod recorded_edits;
+pub mod units;
 
-use std::io;
-use std::io::Write;
+use crate::fields::Fields;
+use std::alloc::{AllocError, AllocFailed, Global};
+use std::io::{BufRead, BufReader, Read, Write};
+use std::rt::Files;
+use std::{fmt, fs, io};
 
-// How many lines agree, how many differ, the number of the first that differs, and where the next line begins.
-#[derive(Clone, Copy)]
+// Why a case does not pass: its line cannot be read, or is not what the code answers; or there is no memory to hold it.
+#[derive(Clone, Copy, Debug)]
+pub enum Failure {
+    Differs,
+    OutOfMemory(AllocError),
+}
+
+impl From<AllocError> for Failure {
+    ghost from_gives = { λ e r. r ≡ OutOfMemory e };
+
+    fn from(error: AllocError) -> Failure {
+        Failure::OutOfMemory(error)
+    }
+}
+
+impl<T: Drop> From<AllocFailed<T>> for Failure {
+    fn from(error: AllocFailed<T>) -> Failure {
+        Failure::OutOfMemory(AllocError::from(error))
+    }
+}
+
+// How many cases agree, how many do not, and the number of the first that does not.
+#[derive(Clone, Copy, Debug, PartialEq, Eq)]
 pub struct Tally {
     pub passed: u64,
     pub failed: u64,
-    pub first: u64,
-    pub at: usize,
+    pub first: Option<u64>,
 }
 
-// No line is passed.
-pub fn no_lines() -> Tally
-    ensures { (result.passed + result.failed ≤ result.at) × (result.at ≡ 0) }
-{
-    Tally {
-        passed: 0,
-        failed: 0,
-        first: 0,
-        at: 0,
+impl Tally {
+    // Of no cases.
+    pub fn new() -> Tally
+        ensures { (result.passed ≡ 0) × (result.failed ≡ 0) × (result.first ≡ None) }
+    {
+        Tally {
+            passed: 0,
+            failed: 0,
+            first: None,
+        }
+    }
+
+    // With one case more.
+    pub fn with(self, agrees: bool) -> Tally
+        requires { self.passed + self.failed + 1 < 2 ^ 64 }
+        ensures passed { result.passed ≡ (if agrees then self.passed + 1 else self.passed) }
+        ensures failed { result.failed ≡ (if agrees then self.failed else self.failed + 1) }
+        ensures first { result.first ≡ (if agrees then self.first else option_or self.first (Some (self.passed + self.failed + 1))) }
+    {
+        if agrees {
+            return Tally {
+                passed: self.passed + 1,
+                ..self
+            };
+        }
+        let number = self.passed + self.failed + 1;
+        Tally {
+            failed: self.failed + 1,
+            first: self.first.or(Some(number)),
+            ..self
+        }
     }
 }
 
-// Where the line that begins at `at` ends.
-pub fn line_end(list: &[u8], at: usize) -> usize
-    requires { at ≤ length list.now }
-    ensures { (at ≤ result) × (result ≤ length list.now) }
-{
-    crate::fields::find(list, at, 10)
+// Its last line is `N passed, M failed`.
+impl fmt::Display for Tally {
+    fn fmt<W: fmt::Write>(&self, f: &mut fmt::Formatter<W>) -> fmt::Result {
+        if let Some(first) = self.first {
+            writeln!(f, "first to differ: case {first}")?;
+        }
+        write!(f, "{} passed, {} failed", self.passed, self.failed)
+    }
 }
 
-// Past the line that ends here, which is counted.
-pub fn past_line(t: Tally, end: usize, good: bool) -> Tally
-    requires { (t.passed + t.failed ≤ t.at) × (t.at ≤ end) × (end ≤ 4_294_967_295) }
-    ensures { (result.passed + result.failed ≤ result.at) × (result.at ≡ end + 1) }
+// A case agrees with the code.
+fn agrees<F: FnMut(&mut Fields<'_>) -> Result<(), Failure>>(
+    line: &[u8],
+    test: &mut F,
+) -> io::Result<bool>
+    requires { (state : F) (x : _) → F.pre state x }
 {
-    if good {
-        return Tally {
-            passed: t.passed + 1,
-            failed: t.failed,
-            first: t.first,
-            at: end + 1,
+    let tested = match Fields::new(line) {
+        Some(mut fields) => test(&mut fields),
+        None => Err(Failure::Differs),
+    };
+    match tested {
+        Ok(()) => Ok(true),
+        Err(Failure::Differs) => Ok(false),
+        Err(Failure::OutOfMemory(error)) => Err(io::Error::from(error)),
+    }
+}
+
+// The tally of a list.
+fn tally_of<R: Read + Drop, F: FnMut(&mut Fields<'_>) -> Result<(), Failure>>(
+    alloc: Global,
+    list: R,
+    test: &mut F,
+) -> io::Result<Tally>
+    requires { (state : F) (x : _) → F.pre state x }
+{
+    let mut tally = Tally::new();
+    for line in BufReader::new(alloc, list)?.split(alloc, b'\n') {
+        let line = line?;
+        tally = tally.with(agrees(line.as_slice(), test)?);
+    }
+    Ok(tally)
+}
+
+// Holds each case of the lists on standard input, which must agree, and in the file `altered`, where each wrong answer must be found, against a test.
+pub fn replay<
+    R: Input + Print + Files + AllocGlobal,
+    F: FnMut(&mut Fields<'_>) -> Result<(), Failure>,
+>(rt: &R, mut test: F) -> io::Result<()>
+    requires { (state : F) (x : _) → F.pre state x }
+{
+    let recorded = tally_of(rt.alloc(), rt.reader(), &mut test)?;
+    println!(rt; "{recorded}")?;
+    let altered = tally_of(rt.alloc(), fs::open(rt, "altered")?, &mut test)?;
+    println!(rt; "{altered}")
+}
+
+#[cfg(test)]
+mod tests {
+    use super::*;
+    use crate::digests::Digest;
+    use crate::fields::{FILL, Reply};
+
+    // Each kind of field is read as what it spells, and what the code answers is found.
+    #[test]
+    fn fields_are_read(rt: HostRuntime) -> Result<(), Failure> {
+        let alloc = rt.alloc();
+        let line =
+            b"2 7 18446744073709551615 00ff - 61*3 2 6162,63*2 - 1 5*2,4294967295 9625390261332436968 2 5 6 2 0 4";
+        let mut fields = Fields::new(line).expect(&rt, "text");
+        let numbers = fields.numbers(alloc)?;
+        assert_eq!(rt;
+            numbers.as_slice(),
+            [7, 18_446_744_073_709_551_615].as_slice()
+        );
+        let bytes = fields.bytes(alloc)?;
+        assert_eq!(rt; bytes.as_slice(), [0, 255].as_slice());
+        let mut run = fields.bytes(alloc)?;
+        assert_eq!(rt; run.len(), 0);
+        fields.run(&mut run)?;
+        assert_eq!(rt; run.as_slice(), b"aaa".as_slice());
+        let texts = fields.buffers::<u8>(alloc)?;
+        assert_eq!(rt; texts.len(), 2);
+        assert_eq!(rt; texts[0].as_slice(), b"abcc".as_slice());
+        assert_eq!(rt; texts[1].len(), 0);
+        let words = fields.buffers::<u32>(alloc)?;
+        assert_eq!(rt; words.len(), 1);
+        assert_eq!(rt; words[0].as_slice(), [5, 5, 4_294_967_295].as_slice());
+        let foobar = Digest::new().with(b"foobar".as_slice());
+        fields.expect_number(foobar.0)?;
+        fields.expect_words(&[5, 6, 0xAAAA_AAAA])?;
+        let mut reply = Reply {
+            words: [FILL; 16],
+            count: 2,
         };
+        reply.words[0] = 0;
+        reply.words[1] = 4;
+        fields.expect_reply(&reply)?;
+        fields.expect_end()
     }
-    if t.failed == 0 {
-        return Tally {
-            passed: t.passed,
-            failed: 1,
-            first: t.passed + 1,
-            at: end + 1,
-        };
-    }
-    Tally {
-        passed: t.passed,
-        failed: t.failed + 1,
-        first: t.first,
-        at: end + 1,
-    }
-}
-
-// A tally, its last line `N passed, M failed`.
-pub fn print_tally<W: Write>(output: &mut W, t: Tally) -> io::Result<()> {
-    if t.failed != 0 {
-        writeln!(output, "first to differ: case {}", t.first)?;
-    }
-    writeln!(output, "{} passed, {} failed", t.passed, t.failed)
-}
-
-// Room for a list.
-pub fn list_buffer() -> [u8; 2_097_152]
-    ensures { 2_097_152 ≡ length result }
-{
-    [0; 2_097_152]
 }

@@ -1,16 +1,17 @@
 // Reads a text from standard input and writes what `scan` prints for it. A text longer than 512 bytes is known by its byte 513.
 #![tactic(auto)]
 
-ghost use Rattle.std.specs.Prelude.{IfSome, OnOk};
-ghost use Rattle.std.specs.Io.KnownBytes.{Appends};
+ghost use Rattle.std.specs.Prelude.{◌≤◌, ℕ, List, IfSome, OnOk, length};
+ghost use Rattle.std.specs.Io.KnownBytes.{Appends, Consumes};
 ghost use Rattle.rules.specs.Scan.{scan_output};
 
 use std::io;
 use std::io::{Read, Write};
 
-// Reads a text and writes what `scan` prints for it.
+// Reads a text and writes what `scan` prints for it. No more of the input is taken, also where reading or writing fails.
 fn scan_input<R: Read, W: Write>(input: &mut R, output: &mut W) -> io::Result<()>
-    ensures { OnOk result (IfSome (R.remaining input.old) (λ text. Appends (W.contents output.old) (W.contents output.new) (scan_output text))) }
+    ensures printed { OnOk result (IfSome (R.remaining input.old) (λ text. Appends (W.contents output.old) (W.contents output.new) (scan_output text))) }
+    ensures taken { (front : List ℕ) × (length front ≤ 513) × Consumes (R.remaining input.old) (R.remaining input.new) front }
 {
     let mut text: [u8; 513] = [0; 513];
     let n = replay::input::read_full(input, &mut text)?;

@@ -5,116 +5,89 @@
 ghost use Rattle.std.specs.Prelude.{◌*◌, ◌≤◌, length};
 ghost use Rattle.rules.specs.Records.{token_size};
 
+use header::{Header, Page};
+use passes::Counts;
 use replay::input::read_full;
 use std::io;
 use std::io::Write;
+use token_walk::{TokenRecord, TokenWalk};
 
-// A number and a space.
-fn print_number<W: Write>(output: &mut W, n: u32) -> io::Result<()> {
-    write!(output, "{n} ")
-}
+// The names of the kinds whose tokens have no text of their own.
+const NAMES: &[u8] = b"<INDENT><DEDENT>\\n";
 
-// The five words of a record.
-fn print_record<W: Write>(output: &mut W, t: token_walk::TokenRecord) -> io::Result<()> {
-    print_number(output, t.kind)?;
-    print_number(output, t.position)?;
-    print_number(output, t.size)?;
-    print_number(output, t.line)?;
-    print_number(output, t.column)
+// The page of a text that reads, with the token records at the front of these words.
+fn page_of<'a>(counts: Counts, text: &'a [u8], lines: &'a [u32], words: &'a [u32]) -> Page<'a>
+    requires { (counts.bytes ≤ 4_294_967_295) × ((counts.lines ≤ 4_294_967_295) × ((counts.tokens ≤ 4_294_967_295) × (token_size * counts.tokens ≤ length words.now))) }
+{
+    Page {
+        head: Header {
+            n: counts.bytes as u32,
+            m: counts.lines as u32,
+            k: counts.tokens as u32,
+        },
+        text,
+        lines,
+        tokens: &words[..records::TOKEN * counts.tokens],
+    }
 }
 
 // The number that the text of token i is granted or refused with, the text, and LF.
-fn print_text<'a, W: Write>(
-    output: &mut W,
-    n: u32,
-    m: u32,
-    k: u32,
-    text: &'a [u8],
-    lines: &[u32],
-    words: &[u32],
-    i: usize,
-    names: &'a [u8],
-) -> io::Result<()> {
-    let mut number: u32 = 99;
-    let part = token_text::token_text(n, m, k, text, lines, words, i, names, &mut number);
-    print_number(output, number)?;
-    output.write_all(part)?;
+fn print_text<W: Write>(output: &mut W, page: Page, i: usize, names: &[u8]) -> io::Result<()> {
+    match token_text::token_text(page, i, names) {
+        Ok(part) => {
+            output.write_all(b"0 ")?;
+            output.write_all(part)?;
+        }
+        Err(refusal) => {
+            let mut reply: [u64; 16] = [0; 16];
+            replies::put_refusal(&mut reply, refusal);
+            write!(output, "{} ", reply[0])?;
+        }
+    }
     output.write_all(b"\n")
 }
 
+// The five words of a record, each with a space behind it.
+fn print_record<W: Write>(output: &mut W, t: TokenRecord) -> io::Result<()> {
+    write!(
+        output,
+        "{} {} {} {} {} ",
+        t.kind, t.position, t.size, t.line, t.column
+    )
+}
+
 // The rows of the tokens, to the end of the walk.
-fn print_tokens<'a, W: Write>(
-    output: &mut W,
-    n: u32,
-    m: u32,
-    k: u32,
-    text: &'a [u8],
-    lines: &[u32],
-    words: &[u32],
-    names: &'a [u8],
-) -> io::Result<()> {
-    let mut next: usize = 0;
-    while next < words.len() {
-        match token_walk::step_from(words, next) {
-            token_walk::Step::Record(after, t) => {
-                print_record(output, t)?;
-                print_text(output, n, m, k, text, lines, words, next, names)?;
-                next = after;
-            }
-            token_walk::Step::Done(_) => {
-                return Ok(());
-            }
-        }
+fn print_tokens<W: Write>(output: &mut W, page: Page) -> io::Result<()> {
+    for (i, token) in TokenWalk::new(page.tokens).enumerate() {
+        print_record(output, token)?;
+        print_text(output, page, i, NAMES)?;
     }
     Ok(())
 }
 
 // Refused with 6, 5 and 7: a token past the last, short names, and a header that needs more words than there are.
-fn print_refusals<'a, W: Write>(
-    output: &mut W,
-    n: u32,
-    m: u32,
-    k: u32,
-    text: &'a [u8],
-    lines: &[u32],
-    words: &[u32],
-    names: &'a [u8],
-) -> io::Result<()> {
-    let short_names = b"<INDENT><DEDENT>";
-    print_text(output, n, m, k, text, lines, words, k as usize, names)?;
-    print_text(output, n, m, k, text, lines, words, 0, short_names)?;
-    print_text(output, n, m, 4_294_967_295, text, lines, words, 0, names)
+fn print_refusals<W: Write>(output: &mut W, page: Page) -> io::Result<()> {
+    let head = Header {
+        k: u32::MAX,
+        ..page.head
+    };
+    print_text(output, page, page.head.k as usize, NAMES)?;
+    print_text(output, page, 0, b"<INDENT><DEDENT>")?;
+    print_text(output, Page { head, ..page }, 0, NAMES)
 }
 
 // A token of no bytes is granted, and the one after it is refused.
-fn print_empty<W: Write>(output: &mut W, names: &[u8]) -> io::Result<()> {
+fn print_empty<W: Write>(output: &mut W) -> io::Result<()> {
     let lines: [u32; records::LINE] = [0; records::LINE];
-    let words: [u32; records::TOKEN] = [45, 0, 0, 1, 1];
-    print_text(output, 0, 0, 1, b"", &lines, &words, 0, names)?;
-    print_text(output, 0, 0, 1, b"", &lines, &words, 1, names)
-}
-
-// What is printed for a text that reads.
-fn print_page<W: Write>(
-    output: &mut W,
-    n: usize,
-    m: usize,
-    k: usize,
-    text: &[u8],
-    lines: &[u32],
-    words: &[u32],
-) -> io::Result<()>
-    requires { (n ≤ 4_294_967_295) × ((m ≤ 4_294_967_295) × ((k ≤ 4_294_967_295) × (token_size * k ≤ length words.now))) }
-{
-    let names = b"<INDENT><DEDENT>\\n";
-    let front = &words[..records::TOKEN * k];
-    print_tokens(
-        output, n as u32, m as u32, k as u32, text, lines, front, names,
-    )?;
-    print_refusals(
-        output, n as u32, m as u32, k as u32, text, lines, front, names,
-    )?;
-    print_empty(output, names)
+    let tokens: [u32; records::TOKEN] = [45, 0, 0, 1, 1];
+    let page = Page {
+        head: Header { n: 0, m: 0, k: 1 },
+        text: b"",
+        lines: &lines,
+        tokens: &tokens,
+    };
+    print_text(output, page, 0, NAMES)?;
+    print_text(output, page, 1, NAMES)
 }
 
 // What is printed for a text.
@@ -122,10 +95,13 @@ fn walk_text<W: Write>(output: &mut W, text: &[u8]) -> io::Result<()> {
     let mut lines: [u32; 10_773] = [0; 10_773];
     let mut words: [u32; 5_120] = [0; 5_120];
     match reading::read(text, &mut lines, &mut words) {
-        reading::ReadAnswer::Records(n, m, k) => {
-            print_page(output, n, m, k, text, &lines, &words)
+        Ok(counts) => {
+            let page = page_of(counts, text, &lines, &words);
+            print_tokens(output, page)?;
+            print_refusals(output, page)?;
+            print_empty(output)
         }
-        _ => output.write_all(b"does not read\n"),
+        Err(_) => output.write_all(b"does not read\n"),
     }
 }
 

@@ -46,8 +46,8 @@ pub slice_bounds-write_all-end : goal.slice_bounds-write_all-end
 slice_bounds-write_all-end g c =
     sym (length-take-le _ _ (front_of _ _ _ _ c.scan-size.ensures.value c.scan-size.ensures.out_after).0)
 
-pub returns : goal.returns
-returns g c =
+pub returns-clause-printed : goal.returns-clause-printed
+returns-clause-printed g c =
     let read = c.in_ok-n.ensures in
     let scanned = c.scan-size.ensures in
     written _ _ _ _ _ _ _ _ read.in_bounds (search rules) read.bytes read.end (front_of _ _ _ _ scanned.value scanned.out_after).1 c.write_all.ensures.bytes
