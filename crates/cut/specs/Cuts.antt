@@ -1,25 +1,35 @@
--- A comment or a sign, a number with its scan, and cuts with the kinds of words or without.
+-- Cuts of the code as the rules have them: a comment or a sign, a number with its scan, and cuts with the kinds of words or without.
 -- Assumes nothing.
-use Rattle.std.specs.Prelude.{ℕ, ◌≡◌, Bool, true, false, List, ltb, if◌then◌else◌}
+use Rattle.std.specs.Prelude.{ℕ, ◌≡◌, Bool, true, false, List, Result, Ok, Err, ltb, if◌then◌else◌}
 use Rattle.rules.specs.Lists.{ascii, begins}
 use Rattle.rules.specs.Kinds.{ident, num}
 use Rattle.rules.specs.Tables.{signs}
 use Rattle.rules.specs.Cut as RulesCut
 use Rattle.numbers.specs.Numbers.{number_of}
-use Rattle.literals.specs.declared.Cut as cut
-use Rattle.literals.specs.declared.Cut.TheVariants as a-cut
+use Rattle.literals.specs.Cuts.{failure_of}
+use Rattle.literals.specs.declared.Failure.{Failure}
+use Rattle.cut.specs.declared.Cut as cut
+use Rattle.cut.specs.declared.Cut.TheVariants as a-cut
 
 -- a comment, or a sign
 abbrev pub comment_or : List ℕ → RulesCut.Cut
 comment_or s = if begins (ascii "//") s then RulesCut.Cut.comment else RulesCut.sign_cut signs s
 
+-- what is cut
+abbrev pub cut_of : Result cut.Cut Failure → RulesCut.Cut
+cut_of (Ok a-cut.Blank) = RulesCut.Cut.blank
+cut_of (Ok a-cut.Comment) = RulesCut.Cut.comment
+cut_of (Ok (a-cut.Token k n)) = RulesCut.Cut.token k n
+cut_of (Ok (a-cut.Number n)) = RulesCut.Cut.token num n.end
+cut_of (Err f) = RulesCut.Cut.fails (failure_of f)
+
 -- a number has the scan of what it is cut from, and no other cut is a Num token
-abbrev pub Scanned : cut.Cut → List ℕ → Type 0
-Scanned a-cut.Blank s = Unit {0}
-Scanned a-cut.Comment s = Unit {0}
-Scanned (a-cut.Token k n) s = k ≡ num → ⊥
-Scanned (a-cut.Number n) s = number_of n ≡ RulesCut.scan_number s
-Scanned (a-cut.Fails f) s = Unit {0}
+abbrev pub Scanned : Result cut.Cut Failure → List ℕ → Type 0
+Scanned (Ok a-cut.Blank) s = Unit {0}
+Scanned (Ok a-cut.Comment) s = Unit {0}
+Scanned (Ok (a-cut.Token k n)) s = k ≡ num → ⊥
+Scanned (Ok (a-cut.Number n)) s = number_of n ≡ RulesCut.scan_number s
+Scanned (Err f) s = Unit {0}
 
 -- A pass that only counts takes every word for an Ident.
 

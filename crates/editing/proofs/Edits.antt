@@ -14,7 +14,7 @@ use Rattle.std.specs.Prelude.{Result, Ok, Err, ◌⊎◌}
 use Rattle.rules.specs.Lists.{overwrite}
 use Rattle.rules.specs.Reading as RulesReading
 use Rattle.rules.specs.Reading.{lines_of, byte_sum, token_sum}
-use Rattle.rules.specs.Limits.{max_bytes, barge, barge_line}
+use Rattle.rules.specs.Limits.{Limits, max_bytes, barge, barge_line}
 use Rattle.rules.specs.Replies.{Refusal, reading, short, outside, unfit, numbered, numbered_unread, text_buffer, spare_buffer, lines_buffer, tokens_buffer, refused_if, first_of, unless, is_too_long, too_long_by, malformed_by}
 use Rattle.rules.specs.Records.{line_size, token_size, line_need, token_need, line_records, token_records, header, end_entry, with_end, Records, records_of, record_tests, recorded_by, recorded, read_lines, Behind}
 use Rattle.rules.specs.Line.{initial}
@@ -37,11 +37,12 @@ use Rattle.refusals.specs.declared.Buffer.{Buffer}
 use Rattle.refusals.specs.declared.Buffer.TheVariants.{Text, Spare, Lines, Tokens}
 use Rattle.refusals.specs.declared.Refusal as refusal
 use Rattle.refusals.specs.declared.Refusal.TheVariants.{Reading, Short, Outside, Unfit}
-use Rattle.refusals.proofs.Tests.{Tested, tested, test_passes}
+use Rattle.refusals.proofs.Tests.{Tested, tested, test_passes, barge_test}
 use Rattle.moving.specs.Moved.{moved_lines, moved_tokens}
 use Rattle.copies.proofs.Joins.{run-over, back-over}
 use Rattle.moving.proofs.Shifts.{length_moved_lines, length_moved_tokens}
-use Rattle.plans.specs.Plans.{lines_after, tokens_after, Planned, Roomy, Mends, LineRefusal, OnPaper, PlanIs}
+use Rattle.records.specs.declared.Counts.{Counts}
+use Rattle.plans.specs.Plans.{end_lines, end_tokens, moved_to, lines_after, tokens_after, Planned, Roomy, Mends, LineRefusal, OnPaper, PlanIs}
 use Rattle.plans.specs.declared.Plan.{Plan}
 use Rattle.writing.proofs.Writes.{written-sizes}
 use Rattle.writing.specs.Writes.{written, line_tail, token_tail, written_lines, written_tokens}
@@ -62,27 +63,6 @@ pub record Ranged (q : Lent) (ed : Edit) : Type 0 where
   pub fit : fits q.page ≡ true
   pub order : ed.a ≤ ed.b
   pub inside : ed.b ≤ q.page.head.n
-
--- and room for the edited text of `size` bytes, which the spare, s now, begins with
-pub record Spliced (q : Lent) (ed : Edit) (size : ℕ) (s : List ℕ) : Type 0 where
-  pub ranged : Ranged q ed
-  pub size_is : size ≡ length (edited (page_text q.page) ed)
-  pub small : size ≤ 1_048_576
-  pub in_text : size ≤ length q.page.text
-  pub in_spare : size ≤ length q.spare
-  pub spare-is : s ≡ overwrite (edited (page_text q.page) ed) q.spare
-
-pub spliced : (q : Lent) (ed : Edit) (size : ℕ) (s : List ℕ) → fits q.page ≡ true → (ed.a ≤ ed.b) × ((ed.b ≤ q.page.head.n) × (size ≡ length (edited (page_text q.page) ed)))
-    → (size ≤ 1_048_576) × ((size ≤ length q.page.text) × (size ≤ length q.spare)) → s ≡ overwrite (edited (page_text q.page) ed) q.spare → Spliced q ed size s
-spliced q ed size s f r b e =
-    record {
-      ranged = record { fit = f; order = r.0; inside = r.1.0 };
-      size_is = r.1.1;
-      small = b.0;
-      in_text = b.1.0;
-      in_spare = b.1.1;
-      spare-is = e;
-    }
 
 module _ (q : Lent) (ed : Edit) where
   abbrev pg : Page
@@ -187,155 +167,177 @@ module _ (q : Lent) (ed : Edit) where
           subst (λ (y : ℕ). EditPost q ed (5 ∷ spare_buffer ∷ y ∷ []) q) (sym es)
           (shut_post q ed (early (short spare_buffer (length u))) rg.fit (gate-spare (sizes q) t ed proper short-enough (omega (arith, es)) (omega (arith, es))))
 
-  -- After the splice.
-  module _ {size : ℕ} {s : List ℕ} (ok : Spliced q ed size s) where
+  -- What `edit_text` is called with: buffers that hold the edited text of `size` bytes.
+  module _ {size : ℕ} (fit : fits pg ≡ true) (range : (a ≤ b) × ((b ≤ n) × (size ≡ length u))) (room : (size ≤ 1_048_576) × ((size ≤ length text) × (size ≤ length q.spare))) where
+    rg : Ranged q ed
+    rg = record { fit = fit; order = range.0; inside = range.1.0 }
+
     abbrev es : size ≡ length u
-    es = ok.size_is
+    es = range.1.1
 
-    pub held : take size s ≡ u
-    held = ap (take size) ok.spare-is ∙ overwrite_take u q.spare size (sym es)
-
-    pub holds : size ≡ a + length w + (n - b)
-    holds = es ∙ size_is ok.ranged
+    holds : size ≡ a + length w + (n - b)
+    holds = es ∙ size_is rg
 
     in_order : Proper t ed
-    in_order = proper ok.ranged
+    in_order = proper rg
 
     short-text : is_too_long barge u ≡ false
-    short-text = short-enough ok.ranged es ok.small
+    short-text = short-enough rg es room.0
 
-    -- 2: the spare holds the edited text
-    pub form_edit : (x : Unread) → test_of barge (take size s) ≡ Err x → Refused q ed (Err (Reading x)) s
-    unfolding reply_of after numbered malformed_by
-    form_edit x h = go (test_of barge u) (tested barge u) (ap (test_of barge) (sym held) ∙ h)
-      where
-        go : (r : Result (Unit {0}) Unread) → Tested barge u r → r ≡ Err x → Refused q ed (Err (Reading x)) s
-        go (Ok v) (Tested.passes e f) c = let z : ◌≡◌ {A = ℕ} 0 1 = cc in absurd (omega arith)
-        go (Err y) (Tested.long e) c = absurd (false≢true (sym short-text ∙ e))
-        go (Err y) (Tested.ill_formed e f) c =
-            let is : unread_in (malformed_by u) ≡ x = cc in
-            let g = gate-malformed (sizes q) t ed in_order short-text (omega (arith, es)) (omega (arith, es)) f in
-            subst (λ (y : Unread). Refused q ed (Err (Reading y)) s) is
-            (unread-edit (unread_in (malformed_by u)) s (rw ok.spare-is (shut_post q ed (late (reading (malformed_by u))) ok.ranged.fit g)))
+    pub may-splice : (a ≤ b) × (b ≤ n) × (n ≤ length text) × (a + length w + (n - b) ≤ length q.spare)
+    may-splice = (range.0, range.1.0, (fits_true pg fit).text, omega (arith, holds, room.1.1))
 
-    module _ (formed : test_of barge (take size s) ≡ Ok tt) where
-      open_gate : gate (sizes q) t ed ≡ none
-      open_gate = gate-clear (sizes q) t ed in_order short-text (omega (arith, es)) (omega (arith, es)) (test_passes barge u (ap (test_of barge) (sym held) ∙ formed)).1
+    pub records_fit : (line_need m ≤ length lines) × (token_need k ≤ length tokens)
+    records_fit = ((fits_true pg fit).lines, (fits_true pg fit).tokens)
 
-      -- 3, 4, 5, 7: what the plan refuses, past the gate
-      late-edit : (r : Refusal) → Free q u (late r) → OnPaper pg ed r → EditPost q ed (reply_of (late r)) (record { page = pg; spare = s })
-      unfolding after
-      late-edit r free paper =
-          rw ok.spare-is (clear-post q ed (late r) ok.ranged.fit open_gate free (λ f. sym (paper (length q.spare) f)))
+    -- the spare is s after the splice
+    module _ {s : List ℕ} (spare-is : s ≡ overwrite u q.spare) where
+      pub may_write : length s ≡ length q.spare → (a ≤ size) × ((size ≤ length text) × ((size ≤ length s) × (size ≤ 1_048_576)))
+      may_write e = (omega (arith, holds), (room.1.0, (omega (arith, e, room.1.1), room.0)))
 
-      free-line : (x : Unread) → LineRefusal x → Free q u (late (reading (unread_of x)))
-      free-line (TooLong number l) k = absurd k
-      free-line (Malformed l) k = absurd k
-      free-line (Fails f) k = failure (record_of f)
-      free-line (AtLine number l) k = limit number l k
+      pub held : take size s ≡ u
+      held = ap (take size) spare-is ∙ overwrite_take u q.spare size (sym es)
 
-      short-edit : (b : Buffer) (least : ℕ) → (b ≡ Lines) ⊎ (b ≡ Tokens) → OnPaper pg ed (short (buffer_number b) least) → Refused q ed (Err (Short b least)) s
-      unfolding reply_of numbered header_after
-      short-edit b least (inl e) = rw e (late-edit (short lines_buffer least) (few_lines least))
-      short-edit b least (inr e) = rw e (late-edit (short tokens_buffer least) (few_tokens least))
+      pub planned : {p : Plan} → PlanIs pg ed (Ok p) → Planned (take size s) lines m k p
+      planned {p} v = subst (λ (x : List ℕ). Planned x lines m k p) (sym held) v.0
 
-      pub refused-edit : (r : refusal.Refusal) → PlanIs pg ed (Err r) → Refused q ed (Err r) s
-      unfolding reply_of numbered header_after
-      refused-edit (Reading x) v = unread-edit x s (late-edit (reading (unread_of x)) (free-line x v.0) v.1)
-      refused-edit (Short b least) v = short-edit b least v.0 v.1
-      refused-edit Outside v = absurd v.0
-      refused-edit Unfit v = late-edit unfit stale v.1
+      -- the tests 1 and 2 of what it holds answer y
+      module _ {lim : Limits} {y : Result (Unit {0}) Unread} (is-barge : lim ≡ barge) (is-test : y ≡ test_of lim (take size s)) where
+        test_is : (z : Result (Unit {0}) Unread) → y ≡ z → test_of barge u ≡ z
+        test_is z e = ap (test_of barge) (sym held) ∙ barge_test (take size s) is-barge is-test z e
 
-      -- An acceptance.
-      module _ {p : Plan} (v : PlanIs pg ed (Ok p)) where
-        abbrev pl : Planned u lines m k p
-        pl = v.0
+        -- 2
+        pub form_edit : (x : Unread) → y ≡ Err x → Refused q ed (Err (Reading x)) s
+        unfolding reply_of after numbered malformed_by
+        form_edit x h = go (test_of barge u) (tested barge u) (test_is (Err x) h)
+          where
+            go : (r : Result (Unit {0}) Unread) → Tested barge u r → r ≡ Err x → Refused q ed (Err (Reading x)) s
+            go (Ok v) (Tested.passes e f) c = let z : ◌≡◌ {A = ℕ} 0 1 = cc in absurd (omega arith)
+            go (Err y) (Tested.long e) c = absurd (false≢true (sym short-text ∙ e))
+            go (Err y) (Tested.ill_formed e f) c =
+                let is : unread_in (malformed_by u) ≡ x = cc in
+                let g = gate-malformed (sizes q) t ed in_order short-text (omega (arith, es)) (omega (arith, es)) f in
+                subst (λ (y : Unread). Refused q ed (Err (Reading y)) s) is
+                (unread-edit (unread_in (malformed_by u)) s (rw spare-is (shut_post q ed (late (reading (malformed_by u))) fit g)))
 
-        abbrev ro : Roomy m k (length lines) (length tokens) p
-        ro = v.1.0
+        module _ (formed : y ≡ Ok tt) where
+          open_gate : gate (sizes q) t ed ≡ none
+          open_gate = gate-clear (sizes q) t ed in_order short-text (omega (arith, es)) (omega (arith, es)) (test_passes barge u (test_is (Ok tt) formed)).1
 
-        abbrev mends : (bh : Behind barge_line t (page_records pg)) → Mends t lines bh.entries bh.end ed p
-        mends = v.1.1
+          -- 3, 4, 5, 7: what the plan refuses, past the gate
+          late-edit : (r : Refusal) → Free q u (late r) → OnPaper pg ed r → EditPost q ed (reply_of (late r)) (record { page = pg; spare = s })
+          unfolding after
+          late-edit r free paper =
+              rw spare-is (clear-post q ed (late r) fit open_gate free (λ f. sym (paper (length q.spare) f)))
 
-        abbrev m' : ℕ
-        m' = lines_after p m - 1
+          free-line : (x : Unread) → LineRefusal x → Free q u (late (reading (unread_of x)))
+          free-line (TooLong number l) k = absurd k
+          free-line (Malformed l) k = absurd k
+          free-line (Fails f) k = failure (record_of f)
+          free-line (AtLine number l) k = limit number l k
 
-        abbrev k' : ℕ
-        k' = tokens_after p k
+          short-edit : (b : Buffer) (least : ℕ) → (b ≡ Lines) ⊎ (b ≡ Tokens) → OnPaper pg ed (short (buffer_number b) least) → Refused q ed (Err (Short b least)) s
+          unfolding reply_of numbered header_after
+          short-edit b least (inl e) = rw e (late-edit (short lines_buffer least) (few_lines least))
+          short-edit b least (inr e) = rw e (late-edit (short tokens_buffer least) (few_tokens least))
 
-        abbrev r : Records
-        r = record { head = header size m' k'; lines = written_lines u lines m p; tokens = written_tokens u lines tokens k p }
+          pub refused-edit : (r : refusal.Refusal) → PlanIs pg ed (Err r) → Refused q ed (Err r) s
+          unfolding reply_of numbered header_after
+          refused-edit (Reading x) v = unread-edit x s (late-edit (reading (unread_of x)) (free-line x v.0) v.1)
+          refused-edit (Short b least) v = short-edit b least v.0 v.1
+          refused-edit Outside v = absurd v.0
+          refused-edit Unfit v = late-edit unfit stale v.1
 
-        counted : (p.lines ≡ length (written u lines p)) × (p.tokens ≡ token_sum (written u lines p))
-        counted = written-sizes pl
+          -- An acceptance.
+          module _ {p : Plan} (v : PlanIs pg ed (Ok p)) where
+            abbrev pl : Planned u lines m k p
+            pl = v.0
 
-        tail-lines : length (line_tail u lines m p) ≡ line_size * (p.lines + (m + 1 - p.j))
-        tail-lines =
-            length-append (line_records p.base p.first (written u lines p)) (moved_lines p.old p.new p.from (p.first + p.tokens) lines p.j (m + 1 - p.j))
-            ∙ omega (arith, length_line_records p.base p.first (written u lines p), length_moved_lines p.old p.new p.from (p.first + p.tokens) lines p.j (m + 1 - p.j), counted.0)
+            abbrev ro : Roomy m k (length lines) (length tokens) p
+            ro = v.1.0
 
-        tail-tokens : length (token_tail u lines tokens k p) ≡ token_size * (p.tokens + (k - p.from))
-        tail-tokens =
-            length-append (token_records p.base (p.i + 1) (written u lines p)) (moved_tokens p.old p.new (p.j + 1) (p.i + p.lines + 1) tokens p.from (k - p.from))
-            ∙ omega (arith, length_token_records p.base (p.i + 1) (written u lines p), length_moved_tokens p.old p.new (p.j + 1) (p.i + p.lines + 1) tokens p.from (k - p.from), counted.1)
+            abbrev mends : (bh : Behind barge_line t (page_records pg)) → Mends t lines bh.entries bh.end ed p
+            mends = v.1.1
 
-        lines_long : length r.lines ≡ line_need m'
-        lines_long =
-            length-append (take (line_size * p.i) lines) (line_tail u lines m p)
-            ∙ omega (arith, length-take-le (line_size * p.i) lines (omega (arith, ro.line-room)), tail-lines, pl.some)
+            abbrev m' : ℕ
+            m' = lines_after p m - 1
 
-        tokens-long : length r.tokens ≡ token_need k'
-        tokens-long =
-            length-append (take (token_size * p.first) tokens) (token_tail u lines tokens k p)
-            ∙ omega (arith, length-take-le (token_size * p.first) tokens (omega (arith, ro.token-room)), tail-tokens)
+            abbrev k' : ℕ
+            k' = tokens_after p k
 
-        -- on a faithful page these are the records of the edited text
-        module _ (bh : Behind barge_line t (page_records pg)) where
-          n-is : size ≡ byte_sum (mends bh).entries
-          n-is = es ∙ sym ((read-sizes barge_line initial (lines_of u) (mends bh).entries (mends bh).last (mends bh).reads-are).1 ∙ total-lines u)
+            abbrev r : Records
+            r = record { head = header size m' k'; lines = written_lines u lines m p; tokens = written_tokens u lines tokens k p }
 
-          all_lines : written_lines u lines m p ≡ line_records 0 0 (with_end (mends bh).entries (mends bh).last)
-          all_lines = line-words n m k text lines tokens ed bh (omega (arith, es)) p pl (mends bh)
+            abbrev to : Counts
+            to = moved_to p
 
-          all-tokens : written_tokens u lines tokens k p ≡ token_records 0 1 (with_end (mends bh).entries (mends bh).last)
-          all-tokens = token-words n m k text lines tokens ed bh (omega (arith, es)) p pl (mends bh)
+            tail-lines : length (line_tail u lines m p) ≡ line_size * (p.read.lines + end_lines p.end + (m + 1 - p.kept.lines))
+            tail-lines =
+                length-append (line_records p.begin.bytes p.begin.tokens (written u lines p)) (moved_lines p.kept.bytes to.bytes p.kept.tokens (to.tokens) lines p.kept.lines (m + 1 - p.kept.lines))
+                ∙ omega (arith, length_line_records p.begin.bytes p.begin.tokens (written u lines p), length_moved_lines p.kept.bytes to.bytes p.kept.tokens (to.tokens) lines p.kept.lines (m + 1 - p.kept.lines), (written-sizes pl).1)
 
-          m-is : m' ≡ length (mends bh).entries
-          m-is =
-              omega (arith, lines_long, ap length all_lines, length_line_records 0 0 (with_end (mends bh).entries (mends bh).last), length-append (mends bh).entries (end_entry (mends bh).last ∷ []))
+            tail-tokens : length (token_tail u lines tokens k p) ≡ token_size * (p.read.tokens + end_tokens p.end + (k - p.kept.tokens))
+            tail-tokens =
+                length-append (token_records p.begin.bytes (p.begin.lines + 1) (written u lines p)) (moved_tokens p.kept.bytes to.bytes (p.kept.lines + 1) (to.lines + 1) tokens p.kept.tokens (k - p.kept.tokens))
+                ∙ omega (arith, length_token_records p.begin.bytes (p.begin.lines + 1) (written u lines p), length_moved_tokens p.kept.bytes to.bytes (p.kept.lines + 1) (to.lines + 1) tokens p.kept.tokens (k - p.kept.tokens), (written-sizes pl).2)
 
-          k-is : k' ≡ token_sum (with_end (mends bh).entries (mends bh).last)
-          k-is = omega (arith, tokens-long, ap length all-tokens, length_token_records 0 1 (with_end (mends bh).entries (mends bh).last))
+            lines_long : length r.lines ≡ line_need m'
+            lines_long =
+                length-append (take (line_size * p.begin.lines) lines) (line_tail u lines m p)
+                ∙ omega (arith, length-take-le (line_size * p.begin.lines) lines (omega (arith, ro.line-room)), tail-lines, pl.some)
 
-          records-are : r ≡ records_of (mends bh).entries (mends bh).last
-          unfolding records_of
-          records-are = λ x. record { head = header (n-is x) (m-is x) (k-is x); lines = all_lines x; tokens = all-tokens x }
+            tokens-long : length r.tokens ≡ token_need k'
+            tokens-long =
+                length-append (take (token_size * p.begin.tokens) tokens) (token_tail u lines tokens k p)
+                ∙ omega (arith, length-take-le (token_size * p.begin.tokens) tokens (omega (arith, ro.token-room)), tail-tokens)
 
-        need_lines : line_need m' ≤ length lines
-        need_lines = omega (arith, ro.line-room, pl.some)
+            -- on a faithful page these are the records of the edited text
+            module _ (bh : Behind barge_line t (page_records pg)) where
+              n-is : size ≡ byte_sum (mends bh).entries
+              n-is = es ∙ sym ((read-sizes barge_line initial (lines_of u) (mends bh).entries (mends bh).last (mends bh).reads-are).1 ∙ total-lines u)
 
-        on-paper : Faithful pg → done r p.count ≡ stored (sizes q) (reread_count barge_line t ed) (read_lines barge_line u)
-        unfolding stored record_tests refused_if first_of unless read_lines recorded_by
-        on-paper f =
-            let bh = behind barge_line t (page_records pg) (fresh_inverse t (page_records pg) f).2 in
-            sym (ap (λ (x : RulesReading.Reading). stored (sizes q) (reread_count barge_line t ed) (recorded_by x)) (mends bh).reads-are ∙ ap (λ (x : Records). stored (sizes q) (reread_count barge_line t ed) (recorded x)) (sym (records-are bh))
-            ∙ rw (le-ltb (length lines) (line_need m') need_lines, le-ltb (length tokens) (token_need k') ro.token-room) (ap (done r) (mends bh).count))
+              all_lines : written_lines u lines m p ≡ line_records 0 0 (with_end (mends bh).entries (mends bh).last)
+              all_lines = line-words n m k text lines tokens ed bh (omega (arith, es)) p pl (mends bh)
 
-        -- the answer and the buffers as the code has them
-        pub accept_edit : {e : Edited} {text' lines' tokens' : List ℕ} → e ≡ edited_by size m k p → text' ≡ sets text a (drop a (take size s))
-            → lines' ≡ sets lines (line_size * p.i) (line_tail (take size s) lines m p) → tokens' ≡ sets tokens (token_size * p.first) (token_tail (take size s) lines tokens k p)
-            → Answered q ed (Ok e) text' s lines' tokens'
-        unfolding reply_of after header_after
-        accept_edit {text' = text'} {lines' = lines'} {tokens' = tokens'} er et el ek =
-            let free : Free q u (done r p.count) = acceptance r p.count es (omega (arith, pl.i-le, pl.lines-le, pl.m-le)) (omega (arith, ro.few)) lines_long tokens-long need_lines ro.token-room in
-            let post = clear-post q ed (done r p.count) ok.ranged.fit open_gate free on-paper in
-            let et' : text' ≡ overwrite u text = et ∙ ap (λ (x : List ℕ). sets text a (drop a x)) held ∙ back-over text u a (omega (arith, holds)) (omega (arith, es)) (front ok.ranged) in
-            let el' : lines' ≡ overwrite r.lines lines =
-            el ∙ ap (λ (x : List ℕ). sets lines (line_size * p.i) (line_tail x lines m p)) held ∙ run-over lines (line_size * p.i) (line_tail u lines m p) (omega (arith, tail-lines, ro.line-room)) in
-            let ek' : tokens' ≡ overwrite r.tokens tokens =
-            ek ∙ ap (λ (x : List ℕ). sets tokens (token_size * p.first) (token_tail x lines tokens k p)) held ∙ run-over tokens (token_size * p.first) (token_tail u lines tokens k p) (omega (arith, tail-tokens, ro.token-room)) in
-            rw er (subst (λ (y : Lent). EditPost q ed (edit_numbers (Ok (edited_by size m k p))) y)
-            (λ x. lent (header size m' k') (sym et' x) (sym ok.spare-is x) (sym el' x) (sym ek' x)) post)
+              all-tokens : written_tokens u lines tokens k p ≡ token_records 0 1 (with_end (mends bh).entries (mends bh).last)
+              all-tokens = token-words n m k text lines tokens ed bh (omega (arith, es)) p pl (mends bh)
+
+              m-is : m' ≡ length (mends bh).entries
+              m-is =
+                  omega (arith, lines_long, ap length all_lines, length_line_records 0 0 (with_end (mends bh).entries (mends bh).last), length-append (mends bh).entries (end_entry (mends bh).last ∷ []))
+
+              k-is : k' ≡ token_sum (with_end (mends bh).entries (mends bh).last)
+              k-is = omega (arith, tokens-long, ap length all-tokens, length_token_records 0 1 (with_end (mends bh).entries (mends bh).last))
+
+              records-are : r ≡ records_of (mends bh).entries (mends bh).last
+              unfolding records_of
+              records-are = λ x. record { head = header (n-is x) (m-is x) (k-is x); lines = all_lines x; tokens = all-tokens x }
+
+            need_lines : line_need m' ≤ length lines
+            need_lines = omega (arith, ro.line-room, pl.some)
+
+            on-paper : Faithful pg → done r p.read.lines ≡ stored (sizes q) (reread_count barge_line t ed) (read_lines barge_line u)
+            unfolding stored record_tests refused_if first_of unless read_lines recorded_by
+            on-paper f =
+                let bh = behind barge_line t (page_records pg) (fresh_inverse t (page_records pg) f).2 in
+                sym (ap (λ (x : RulesReading.Reading). stored (sizes q) (reread_count barge_line t ed) (recorded_by x)) (mends bh).reads-are ∙ ap (λ (x : Records). stored (sizes q) (reread_count barge_line t ed) (recorded x)) (sym (records-are bh))
+                ∙ rw (le-ltb (length lines) (line_need m') need_lines, le-ltb (length tokens) (token_need k') ro.token-room) (ap (done r) (mends bh).count))
+
+            -- the answer and the buffers as the code has them
+            pub accept_edit : {e : Edited} {text' lines' tokens' : List ℕ} → e ≡ edited_by size m k p → text' ≡ sets text a (drop a (take size s))
+                → lines' ≡ sets lines (line_size * p.begin.lines) (line_tail (take size s) lines m p) → tokens' ≡ sets tokens (token_size * p.begin.tokens) (token_tail (take size s) lines tokens k p)
+                → Answered q ed (Ok e) text' s lines' tokens'
+            unfolding reply_of after header_after
+            accept_edit {text' = text'} {lines' = lines'} {tokens' = tokens'} er et el ek =
+                let free : Free q u (done r p.read.lines) = acceptance r p.read.lines es (omega (arith, pl.begin-lines, pl.read-lines, pl.m-le)) (omega (arith, ro.few)) lines_long tokens-long need_lines ro.token-room in
+                let post = clear-post q ed (done r p.read.lines) fit open_gate free on-paper in
+                let et' : text' ≡ overwrite u text = et ∙ ap (λ (x : List ℕ). sets text a (drop a x)) held ∙ back-over text u a (omega (arith, holds)) (omega (arith, es)) (front rg) in
+                let el' : lines' ≡ overwrite r.lines lines =
+                el ∙ ap (λ (x : List ℕ). sets lines (line_size * p.begin.lines) (line_tail x lines m p)) held ∙ run-over lines (line_size * p.begin.lines) (line_tail u lines m p) (omega (arith, tail-lines, ro.line-room)) in
+                let ek' : tokens' ≡ overwrite r.tokens tokens =
+                ek ∙ ap (λ (x : List ℕ). sets tokens (token_size * p.begin.tokens) (token_tail x lines tokens k p)) held ∙ run-over tokens (token_size * p.begin.tokens) (token_tail u lines tokens k p) (omega (arith, tail-tokens, ro.token-room)) in
+                rw er (subst (λ (y : Lent). EditPost q ed (edit_numbers (Ok (edited_by size m k p))) y)
+                (λ x. lent (header size m' k') (sym et' x) (sym spare-is x) (sym el' x) (sym ek' x)) post)
 
 -- a length within the limit is not capped
 pub settled : (size full long : ℕ) → size ≡ min full 18_446_744_073_709_551_615 → long ≡ full → size ≤ 1_048_576 → size ≡ long

@@ -19,7 +19,7 @@ edit_numbers r = reply_of edit_values r
 
 -- the answer of an edit of `size` bytes that is written by a plan, for a page of m lines and k tokens
 abbrev pub edited_by : (size m k : ℕ) → Plan → Edited
-edited_by size m k p = record { bytes = size; lines = lines_after p m - 1; tokens = tokens_after p k; reread = p.count }
+edited_by size m k p = record { bytes = size; lines = lines_after p m - 1; tokens = tokens_after p k; reread = p.read.lines }
 
 -- a header and the buffers
 abbrev pub lent : Header → (text spare lines tokens : List ℕ) → Lent

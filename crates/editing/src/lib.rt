@@ -8,7 +8,7 @@ ghost use Rattle.rules.specs.Page.{fits};
 ghost use Rattle.rules.specs.StopRule.{edited};
 ghost use Rattle.rules.specs.Edit.{EditPost};
 ghost use Rattle.header.specs.Pages.{header_of, page};
-ghost use Rattle.plans.specs.Plans.{lent_edit, lines_after, tokens_after, Planned, Roomy};
+ghost use Rattle.plans.specs.Plans.{lent_edit, Small, lines_after, Planned, Roomy};
 ghost use Rattle.writing.specs.Writes.{line_tail, token_tail};
 ghost use Rattle.editing.specs.Answers.{edit_numbers, edited_by, lent, lent_after};
 
@@ -27,17 +27,17 @@ pub struct Edited {
 
 // The answer of an edit that is written by this plan.
 fn edited_by(size: usize, m: usize, k: usize, p: Plan) -> Edited
-    requires m_bound { (m ≤ 1_048_576) × ((p.j ≤ m + 1) × (p.from ≤ k)) }
-    requires bound { (1 ≤ lines_after p m) × ((lines_after p m ≤ 4_194_304) × (tokens_after p k ≤ 2_097_152)) }
+    requires m_bound { (m ≤ 1_048_576) × ((k ≤ 2_097_152) × ((p.kept.lines ≤ m + 1) × (p.kept.tokens ≤ k))) }
+    requires small { Small p }
+    requires some { 1 ≤ lines_after p m }
     ensures { result ≡ edited_by size m k p }
 {
-    let line_records = p.i + p.lines + (m + 1 - p.j);
-    let token_records = p.first + p.tokens + (k - p.from);
+    let to = p.moved();
     Edited {
         bytes: size,
-        lines: line_records - 1,
-        tokens: token_records,
-        reread: p.count,
+        lines: to.lines + (m + 1 - p.kept.lines) - 1,
+        tokens: to.tokens + (k - p.kept.tokens),
+        reread: p.read.lines,
     }
 }
 
@@ -59,8 +59,8 @@ fn write_edit(
     requires roomy { Roomy head.m head.k (length lines.old) (length tokens.old) p }
     ensures value { result ≡ edited_by size head.m head.k p }
     ensures text_after { text.new ≡ sets text.old a (drop a (take size spare.now)) }
-    ensures lines_after { lines.new ≡ sets lines.old (line_size * p.i) (line_tail (take size spare.now) lines.old head.m p) }
-    ensures tokens_after { tokens.new ≡ sets tokens.old (token_size * p.first) (token_tail (take size spare.now) lines.old tokens.old head.k p) }
+    ensures lines_after { lines.new ≡ sets lines.old (line_size * p.begin.lines) (line_tail (take size spare.now) lines.old head.m p) }
+    ensures tokens_after { tokens.new ≡ sets tokens.old (token_size * p.begin.tokens) (token_tail (take size spare.now) lines.old tokens.old head.k p) }
 {
     let m = head.m as usize;
     let k = head.k as usize;

@@ -5,8 +5,9 @@ ghost use Rattle.std.specs.Prelude.{◌≡◌, ◌||◌, ◌≤◌, length, drop
 ghost use Rattle.rules.specs.Lists.{run};
 ghost use Rattle.rules.specs.Tables.{is_blank};
 ghost use Rattle.rules.specs.Line.{is_space, is_tab, indent_width, indent_size, is_blank_line};
-ghost use Rattle.tables.specs.All.{all_tables};
 ghost use Rattle.indent.specs.Indents.{ends_or_comment};
+
+use tables::{Run, Tables};
 
 // The indent width, leading spaces count 1, tabs 4, of a line that begins with so many spaces.
 pub fn compute_indent(line: &[u8], spaces: usize) -> u32
@@ -14,58 +15,42 @@ pub fn compute_indent(line: &[u8], spaces: usize) -> u32
     ensures { result ≡ indent_width line.now }
 {
     let mut width = spaces as u32;
-    let mut i = spaces;
-    while i < line.len() {
-        let b = line[i];
-        if b == 32 {
-            width += 1;
-            i += 1;
-            continue;
+    for i in spaces..line.len() {
+        match line[i] {
+            b' ' => width += 1,
+            b'\t' => width += 4,
+            _ => return width,
         }
-        if b != 9 {
-            return width;
-        }
-        width += 4;
-        i += 1;
     }
     width
 }
 
 // A space or a tab.
+#[tactic(auto, using(std::proofs::lemmas::Bool::Decides::nat_tests), unfolding(rules::specs::Line::is_space, rules::specs::Line::is_tab))]
 fn is_indent(b: u8) -> bool
     ensures { result ≡ (is_space b || is_tab b) }
 {
-    if b == 32 {
-        return true;
-    }
-    b == 9
+    matches!(b, b' ' | b'\t')
 }
 
 // The leading spaces and tabs.
 pub fn leading_indent_bytes(line: &[u8]) -> usize
     ensures { result ≡ indent_size line.now }
 {
-    let mut i: usize = 0;
-    while i < line.len() {
+    for i in 0..line.len() {
         if !is_indent(line[i]) {
             return i;
         }
-        i += 1;
     }
-    i
+    line.len()
 }
 
 // A space, a tab or a CR.
+#[tactic(auto, using(std::proofs::lemmas::Bool::Decides::nat_tests), unfolding(rules::specs::Tables::is_blank, rules::specs::Lists::elem, rules::specs::Lists::any))]
 fn is_blank(b: u8) -> bool
     ensures { result ≡ is_blank b }
 {
-    if b == 32 {
-        return true;
-    }
-    if b == 9 {
-        return true;
-    }
-    b == 13
+    matches!(b, b' ' | b'\t' | b'\r')
 }
 
 // Where the leading spaces, tabs and CRs end, of a line that begins with so many spaces.
@@ -73,28 +58,22 @@ fn blank_end(line: &[u8], spaces: usize) -> usize
     requires { spaces ≡ run is_space line.now }
     ensures { result ≡ run is_blank line.now }
 {
-    let mut i = spaces;
-    while i < line.len() {
+    for i in spaces..line.len() {
         if !is_blank(line[i]) {
             return i;
         }
-        i += 1;
     }
-    i
+    line.len()
 }
 
 // The spaces at a line's start; most lines have none, and then no run is looked for.
-pub fn leading_spaces(tables: &[u8; tables::SIZE], line: &[u8]) -> usize
-    requires { tables.now ≡ all_tables }
+pub fn leading_spaces(tables: &Tables, line: &[u8]) -> usize
     ensures { result ≡ run is_space line.now }
 {
-    if line.len() == 0 {
+    if line.len() == 0 || line[0] != b' ' {
         return 0;
     }
-    if line[0] != 32 {
-        return 0;
-    }
-    runs::run_end(tables, line, 0, 3)
+    runs::run_end(tables, line, 0, Run::Spaces)
 }
 
 // At `at` the line ends or a comment begins.
@@ -102,13 +81,7 @@ fn ends_at(line: &[u8], at: usize) -> bool
     requires { at ≤ length line.now }
     ensures { result ≡ ends_or_comment (drop at line.now) }
 {
-    if at == line.len() {
-        return true;
-    }
-    if line[at] == 35 {
-        return true;
-    }
-    search::begins_at(line, at, b"//")
+    at == line.len() || line[at] == b'#' || search::begins_at(line, at, b"//")
 }
 
 // After its blanks the line, which begins with so many spaces, is empty or begins with `#` or `//`.

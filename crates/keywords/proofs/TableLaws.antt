@@ -1,7 +1,7 @@
 -- The groups of the keyword table, by tests that are computed over all rows and letters.
 -- Assumes nothing.
 use Prim.Native.Nat.{ℕ, ◌+◌, ◌-◌, ◌*◌, ◌≤◌, ◌<◌}
-use mathlib.Core.Path.{◌≡◌, refl, ◌∙◌}
+use mathlib.Core.Path.{◌≡◌, refl, sym, ◌∙◌}
 use mathlib.Core.List.{List, [], ◌∷◌}
 use native.Mathlib.Omega.{arith}
 use lib.Dec.{T, leb, leb→le}
@@ -9,11 +9,11 @@ use lib.ListN.{length, get_or}
 use Rattle.laws.proofs.Below.{below, at}
 use Rattle.rules.specs.Kinds.{ident}
 use Rattle.rules.specs.Tables.{Spelling, keywords, word_kind, table_rules}
-use Rattle.tables.specs.Keywords.{of_letter, keyword_start, keyword_table, row_rules}
-use Rattle.tables.specs.All.{all_tables}
+use Rattle.tables.specs.Keywords.{letter_of, of_letter, keyword_start, keyword_table, row_rules}
 use Rattle.tables.proofs.Entries.{by-table}
-use Rattle.tables.proofs.Parts.{keywords-part, part-entry}
 use Rattle.keywords.specs.Rows.{row_at, rows_from}
+use Rattle.keywords.proofs.GroupLaws.{word_of_letter}
+use Rattle.keywords.proofs.SearchLaws.{Row}
 
 -- rows of a table that can be searched, and the spellings that they hold
 pub record Group (t : List ℕ) (from to : ℕ) (ks : List Spelling) : Type 0 where
@@ -32,12 +32,6 @@ group {t} rows size narrow h e = record {
 
 -- Keywords.
 
--- where the rows of a letter begin
-start-at : {l : List ℕ} → l ≡ all_tables → (x j : ℕ) → j ≡ 2402 + x → x ≤ 32 → get_or l j 0 ≡ keyword_start x
-unfolding table_rules row_rules
-start-at e x j is h =
-    part-entry keywords-part e (506 + x) j (omega arith) (omega arith) ∙ by-table (λ m. get_or keyword_table (506 + m) 0) keyword_start 33 0 refl x (omega arith)
-
 start_small : (x : ℕ) → x ≤ 32 → keyword_start x ≤ 46
 unfolding table_rules row_rules
 start_small x h = leb→le _ _ (at (λ m. leb (keyword_start m) 46) 33 tt x (omega arith))
@@ -50,13 +44,28 @@ rows_of : (x : ℕ) → x < 32 → Group keyword_table (keyword_start x) (keywor
 unfolding table_rules row_rules
 rows_of x h = group 46 tt tt (start_small (x + 1) (omega arith)) (letter-rows x h)
 
--- the rows of a letter
-pub letter-group : {l : List ℕ} → l ≡ all_tables → (x : ℕ) → x < 32 → Group keyword_table (get_or l (2402 + x) 0) (get_or l (2403 + x) 0) (of_letter x keywords)
-letter-group e x h = rw (start-at e x (2402 + x) (omega arith) (omega arith), start-at e (x + 1) (2403 + x) (omega arith) (omega arith)) (rows_of x h)
+-- the search through the rows of the word's letter is that through all
+pub begins : (w : List ℕ) {from to : ℕ} → from ≡ keyword_start (letter_of w) → to ≡ keyword_start (letter_of w + 1)
+    → word_kind keywords w ≡ word_kind (rows_from keyword_table from (to - from)) w
+begins w e f =
+    let g = rows_of (letter_of w) (omega arith) in
+    sym (word_of_letter w keywords) ∙ sym (rw (e, f, g.holds))
 
--- its last row is one of the 46
-pub letter-end : {l : List ℕ} → l ≡ all_tables → (x : ℕ) → x < 32 → get_or l (2403 + x) 0 ≤ 46
-letter-end e x h = rw (start-at e (x + 1) (2403 + x) (omega arith) (omega arith)) (start_small (x + 1) (omega arith))
+-- a row that is searched, of those of a letter, which end at `to`
+pub record Searched (to row : ℕ) : Type 0 where
+  pub narrow : get_or keyword_table (11 * row) 0 ≤ 9
+  pub inside : row < 46
+  pub at_row : Row keyword_table to row
+
+pub searched : (x : ℕ) → x < 32 → {to row : ℕ} → to ≡ keyword_start (x + 1) → row < to → Searched to row
+searched x h {to} {row} e before =
+    let g = rows_of x h in
+    let n = g.narrow row (omega (arith, e)) in
+    record {
+      narrow = n;
+      inside = omega (arith, e, start_small (x + 1) (omega arith));
+      at_row = record { before = before; fits = omega (arith, e, g.inside, n) };
+    }
 
 -- no keyword is empty
 pub no_word : (w : List ℕ) → length w ≡ 0 → word_kind keywords w ≡ ident

@@ -3,48 +3,37 @@
 
 ghost use Rattle.std.specs.Prelude.{◌≡◌};
 ghost use Rattle.rules.specs.Tables.{keywords, word_kind};
-ghost use Rattle.tables.specs.All.{all_tables};
 
-// Where the tables have the length, the kind and the bytes of the first row.
-const LENGTHS: usize = 1896;
+use tables::{Tables, kinds};
 
-const KINDS: usize = 1897;
-
-const SPELLINGS: usize = 1898;
-
-// Where they have, for each letter, the row at which its spellings begin, and the one at which they end.
-const FIRSTS: usize = 2402;
-
-const ENDS: usize = 2403;
-
-// The kind of a word: that of the keyword which it spells, otherwise 45, an identifier. Rows of another first letter are not looked at; a
-// row of another length, or with a byte that differs, is passed; the first that agrees in length and every byte ends the search.
-pub fn word_kind(tables: &[u8; tables::SIZE], word: &[u8]) -> u32
-    requires { tables.now ≡ all_tables }
+// The kind of a word: that of the keyword which it spells, otherwise an identifier. Rows of another first letter are not looked at; a row of
+// another length, or with a byte that differs, is passed; the first that agrees in length and every byte ends the search.
+// The loops are those that document 01 names, left or continued by label and yielding the kind, so they count rows and bytes by hand.
+pub fn word_kind(tables: &Tables, word: &[u8]) -> u32
     ensures { result ≡ word_kind keywords word.now }
 {
     let n = word.len();
     if n == 0 {
-        return 45;
+        return kinds::IDENT;
     }
     let letter = (word[0] % 32) as usize;
-    let to = tables[ENDS + letter] as usize;
-    let mut row = tables[FIRSTS + letter] as usize;
+    let to = tables.keyword_start(letter + 1);
+    let mut row = tables.keyword_start(letter);
     'rows: loop {
         if to <= row {
-            break 'rows 45;
+            break 'rows kinds::IDENT;
         }
-        let base = 11 * row;
+        let here = row;
         row += 1;
-        if tables[base + LENGTHS] as usize != n {
+        if tables.keyword_length(here) != n {
             continue 'rows;
         }
         let mut j: usize = 0;
         loop {
             if j == n {
-                break 'rows tables[base + KINDS] as u32;
+                break 'rows tables.keyword_kind(here);
             }
-            if tables[base + SPELLINGS + j] != word[j] {
+            if tables.keyword_byte(here, j) != word[j] {
                 continue 'rows;
             }
             j += 1;

@@ -1,3 +1,1 @@
-pub mod Widths
-pub mod Levels
 pub mod Leading

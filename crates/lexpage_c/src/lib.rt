@@ -1,5 +1,5 @@
 // The functions of include/lexpage.h: each is the call of `lexpage` of the same name, with the same contract. A slice comes as a pointer and a
-// length in elements, the reply as one pointer.
+// length in elements, the reply as one pointer. They stand apart, since the archive for C is a crate of its own that no program can stand on.
 #![tactic(auto)]
 
 ghost use Rattle.std.specs.Prelude.{◌≡◌, length};

@@ -1,14 +1,14 @@
 -- The cuts of a line as a loop makes them: what was cut so far, and what is left.
 -- Assumes nothing.
-use Prim.Native.Nat.{ℕ, suc, ◌+◌, ◌*◌, ◌≤◌, ◌<◌, pred}
+use Prim.Native.Nat.{ℕ, suc, ◌+◌, ◌-◌, ◌*◌, ◌≤◌, ◌<◌, pred}
 use mathlib.Core.Path.{◌≡◌, refl, sym, ap, subst, ◌∙◌}
-use mathlib.Core.Bool.{Bool, true, false, not, ◌&&◌, false≢true}
+use mathlib.Core.Bool.{Bool, true, false}
 use mathlib.Core.List.{List, [], ◌∷◌, ◌++◌, append_assoc, append-nil}
 use native.Mathlib.Omega.{arith}
 use native.Mathlib.Numerals.{add-one}
 use lib.Dec.{eqb}
 use lib.ListN.{length, drop, length-append, length-drop}
-use Rattle.std.specs.Prelude.{if◌then◌else◌}
+use Rattle.std.specs.Prelude.{Result, Ok, Err, if◌then◌else◌}
 use Rattle.rules.specs.Lists.{run}
 use Rattle.rules.specs.Kinds.{ident, implies, l_paren, r_paren}
 use Rattle.rules.specs.Failure.{Failure}
@@ -25,11 +25,11 @@ use Rattle.indent.proofs.Spaces.{spaces_le, cuts-behind}
 use Rattle.cursor.specs.Cursors.{depth_by, cursor_at, blank_past, token_past}
 use Rattle.cursor.specs.declared.Cursor.{Cursor}
 use Rattle.cursor.proofs.Depths.{depth-by-le}
-use Rattle.line.specs.LineCuts.{failure_in, line_cuts_of, tokens_of, RoomFor}
-use Rattle.line.specs.declared.LineCuts.{LineCuts}
-use Rattle.line.specs.declared.LineCuts.TheVariants.{Ends, Stops}
-use Rattle.laws.specs.Puts.{put_if}
-use Rattle.laws.proofs.Puts.{length_put_if, put_if_append, put_if-none, put_if-by}
+use Rattle.records.specs.Sinks.{SinkLaws}
+use Rattle.records.proofs.Takes.{then-takes, fits_after}
+use Rattle.line.specs.LineCuts.{failure_in, line_cuts_of, tokens_of, Room, Taken}
+use Rattle.literals.specs.declared.Failure as code
+use Rattle.line.specs.declared.Ends.{Ends}
 
 -- tokens in front of cuts
 unfoldable pub with_tokens : List Token → Cuts → Cuts
@@ -83,28 +83,29 @@ failure-at l at f h e =
     let ok : f.at + f.size ≤ length (drop at l) = rw e at (cut_ok (drop at l)) in
     omega (arith, ok, length-drop at l)
 
--- room for all tokens of a line
-pub all_room : (x : Cuts) (k m : ℕ) → RoomFor x k m → (ts : List Token) × (x ≡ cuts ts) × (token_size * (k + length ts) ≤ m)
-all_room (cuts ts) k m h = (ts, refl, h)
-all_room (stops f) k m h = absurd h
-
 -- Of a line, with the depth before it and the place of its tokens: what is done where the cursor stands.
-module _ (l : List ℕ) (d₀ : ℕ) (place : Place) (tokens₀ : List ℕ) where
-  pub record Progress (tokens : List ℕ) (t : Cursor) : Type 0 where
-    pub done : List Token
-    pub inside : t.at ≤ length l
-    pub rest : cuts_from 0 0 l ≡ with_tokens done (cuts_from t.at 0 (drop t.at l))
-    pub count : length done ≡ t.n
-    pub few : t.n ≤ t.at
-    pub depth_is : depth_after d₀ done ≡ t.«open»
-    pub shallow : t.«open» ≤ d₀ + t.at
-    pub arrow-is : arrow_after false done ≡ t.arrow
-    pub words : tokens ≡ put_if place.write tokens₀ (token_size * place.first) (token_words place.start (place.line + 1) done)
+pub record Progress {S : Type 0} (takes : S → S → ℕ → List ℕ → Type 0) (l : List ℕ) (d₀ : ℕ) (place : Place) (tokens₀ tokens : S) (t : Cursor) : Type 0 where
+  pub done : List Token
+  pub inside : t.at ≤ length l
+  pub rest : cuts_from 0 0 l ≡ with_tokens done (cuts_from t.at 0 (drop t.at l))
+  pub count : length done ≡ t.n
+  pub few : t.n ≤ t.at
+  pub depth_is : depth_after d₀ done ≡ t.depth
+  pub shallow : t.depth ≤ d₀ + t.at
+  pub arrow-is : arrow_after false done ≡ t.arrow
+  pub words : takes tokens₀ tokens (token_size * place.first) (token_words place.start (place.line + 1) done)
 
-  pub start : (spaces : ℕ) → spaces ≡ run is_space l → Progress tokens₀ (cursor_at spaces d₀)
+-- The line is done: all that was cut is taken, where it reads.
+pub record Done {S : Type 0} (takes : S → S → ℕ → List ℕ → Type 0) (l : List ℕ) (d₀ : ℕ) (place : Place) (tokens₀ tokens : S) (r : Result Ends code.Failure) : Type 0 where
+  pub value : r ≡ line_cuts_of d₀ (cuts_from 0 0 l)
+  pub taken : Taken (takes tokens₀ tokens) place (tokens_of (cuts_from 0 0 l))
+
+module _ {S : Type 0} {fits : S → ℕ → Type 0} {takes : S → S → ℕ → List ℕ → Type 0} {named : Bool} (laws : SinkLaws fits takes named) where
+  pub start : (l : List ℕ) (d₀ : ℕ) (place : Place) (tokens₀ : S) (spaces : ℕ) → spaces ≡ run is_space l → (t : Cursor) → t ≡ cursor_at spaces d₀ → Progress takes l d₀ place tokens₀ tokens₀ t
   unfolding depth_after arrow_after token_words
-  start spaces is =
-      record {
+  start l d₀ place tokens₀ spaces is t e =
+      subst (Progress takes l d₀ place tokens₀ tokens₀) (sym e)
+      (record {
         done = [];
         inside = spaces_le l spaces is;
         rest = cuts-behind l spaces is ∙ sym (with_tokens-none (cuts_from spaces 0 (drop spaces l)));
@@ -113,118 +114,113 @@ module _ (l : List ℕ) (d₀ : ℕ) (place : Place) (tokens₀ : List ℕ) wher
         depth_is = refl;
         shallow = omega arith;
         arrow-is = refl;
-        words = sym (put_if-none place.write tokens₀ (token_size * place.first));
-      }
+        words = laws.nothing tokens₀ (token_size * place.first);
+      })
 
-module _ {l : List ℕ} {d₀ : ℕ} {place : Place} {tokens₀ tokens : List ℕ} {t : Cursor} (v : Progress l d₀ place tokens₀ tokens t) where
-  pub same-tokens : length tokens ≡ length tokens₀
-  same-tokens = ap length v.words ∙ length_put_if place.write tokens₀ (token_size * place.first) (token_words place.start (place.line + 1) v.done)
-
-  pub at-end : length l ≤ t.at → cuts_from 0 0 l ≡ cuts v.done
-  unfolding with_tokens
-  at-end h = v.rest ∙ ap (with_tokens v.done) (cuts-end t.at l h) ∙ ap cuts (append-nil v.done)
-
-  module _ (h : t.at < length l) where
-    pub at-comment : cut (drop t.at l) ≡ comment → cuts_from 0 0 l ≡ cuts v.done
+  module _ {l : List ℕ} {d₀ : ℕ} {place : Place} {tokens₀ tokens : S} {t : Cursor} (v : Progress takes l d₀ place tokens₀ tokens t) where
+    pub at-end : length l ≤ t.at → cuts_from 0 0 l ≡ cuts v.done
     unfolding with_tokens
-    at-comment e = v.rest ∙ ap (with_tokens v.done) (cuts-comment t.at l h e) ∙ ap cuts (append-nil v.done)
+    at-end h = v.rest ∙ ap (with_tokens v.done) (cuts-end t.at l h) ∙ ap cuts (append-nil v.done)
 
-    pub at-failure : (f : Failure) → cut (drop t.at l) ≡ fails f → cuts_from 0 0 l ≡ stops (moved_by t.at f)
-    unfolding with_tokens
-    at-failure f e = v.rest ∙ ap (with_tokens v.done) (cuts-fails t.at l h f e)
+    module _ (h : t.at < length l) where
+      pub at-comment : cut (drop t.at l) ≡ comment → cuts_from 0 0 l ≡ cuts v.done
+      unfolding with_tokens
+      at-comment e = v.rest ∙ ap (with_tokens v.done) (cuts-comment t.at l h e) ∙ ap cuts (append-nil v.done)
 
-    pub past-blank : cut (drop t.at l) ≡ blank → (t' : Cursor) → t' ≡ blank_past t → Progress l d₀ place tokens₀ tokens t'
-    past-blank e t' is =
-        subst (Progress l d₀ place tokens₀ tokens) (sym is)
-        (record {
-          done = v.done;
-          inside = omega arith;
-          rest = v.rest ∙ ap (with_tokens v.done) (cuts-blank t.at l h e);
-          count = v.count;
-          few = omega (arith, v.few);
-          depth_is = v.depth_is;
-          shallow = omega (arith, v.shallow);
-          arrow-is = v.arrow-is;
-          words = v.words;
-        })
+      pub at-failure : (f : Failure) → cut (drop t.at l) ≡ fails f → cuts_from 0 0 l ≡ stops (moved_by t.at f)
+      unfolding with_tokens
+      at-failure f e = v.rest ∙ ap (with_tokens v.done) (cuts-fails t.at l h f e)
 
-    -- A token, of the kind that the pass gives: that kind serves the depth and the arrow.
-    module _ {kind size : ℕ} (x : TokenAt place.write l t.at kind size) where
-      abbrev one : Token
-      one = token_at x.real t.at size
+      pub past-blank : cut (drop t.at l) ≡ blank → (t' : Cursor) → t' ≡ blank_past t → Progress takes l d₀ place tokens₀ tokens t'
+      past-blank e t' is =
+          subst (Progress takes l d₀ place tokens₀ tokens) (sym is)
+          (record {
+            done = v.done;
+            inside = omega arith;
+            rest = v.rest ∙ ap (with_tokens v.done) (cuts-blank t.at l h e);
+            count = v.count;
+            few = omega (arith, v.few);
+            depth_is = v.depth_is;
+            shallow = omega (arith, v.shallow);
+            arrow-is = v.arrow-is;
+            words = v.words;
+          })
 
-      abbrev before : List ℕ
-      before = token_words place.start (place.line + 1) v.done
+      -- A token, of the kind that the sink is given: that kind serves the depth and the arrow.
+      module _ {kind size : ℕ} (x : TokenAt named l t.at kind size) where
+        abbrev one : Token
+        one = token_at x.real t.at size
 
-      given : (j : ℕ) → ident < j → eqb x.real j ≡ eqb kind j
-      given j h = plain_eqb j x.real kind h x.named.plain
+        abbrev before : List ℕ
+        before = token_words place.start (place.line + 1) v.done
 
-      depth_then : depth_after d₀ (v.done ++ (one ∷ [])) ≡ depth_by t.«open» kind
-      unfolding depth_by
-      depth_then = depth_snoc d₀ v.done one ∙ rw (v.depth_is, given l_paren (omega arith), given r_paren (omega arith)) refl
+        given : (j : ℕ) → ident < j → eqb x.real j ≡ eqb kind j
+        given j h = plain_eqb j x.real kind h x.named.plain
 
-      words_then : put_if place.write tokens (token_size * (place.first + t.n)) (words_at place t.at kind size)
-          ≡ put_if place.write tokens₀ (token_size * place.first) (token_words place.start (place.line + 1) (v.done ++ (one ∷ [])))
-      words_then =
-          let at : ℕ = token_size * (place.first + t.n) in
-          let ws : List ℕ = words_at place t.at kind size in
-          ap (λ (ts : List ℕ). put_if place.write ts at ws) v.words
-          ∙ put_if_append place.write tokens₀ (token_size * place.first) at before ws (omega (arith, length_token_words place.start (place.line + 1) v.done, v.count))
-          ∙ put_if-by place.write tokens₀ (token_size * place.first) _ (token_words place.start (place.line + 1) (v.done ++ (one ∷ [])))
-          (λ w. ap (λ (k : ℕ). before ++ words_at place t.at k size) (sym (x.named.real w))
-          ∙ ap (λ (c : ℕ). before ++ (x.real ∷ (place.start + t.at) ∷ size ∷ (place.line + 1) ∷ c ∷ [])) (add-one t.at) ∙ sym (words_snoc place.start (place.line + 1) v.done one))
+        depth_then : depth_after d₀ (v.done ++ (one ∷ [])) ≡ depth_by t.depth kind
+        unfolding depth_by
+        depth_then = depth_snoc d₀ v.done one ∙ rw (v.depth_is, given l_paren (omega arith), given r_paren (omega arith)) refl
 
-      past : Progress l d₀ place tokens₀ (put_if place.write tokens (token_size * (place.first + t.n)) (words_at place t.at kind size)) (token_past t kind size)
-      past =
-          record {
-            done = v.done ++ (one ∷ []);
-            inside = x.in_line;
-            rest = v.rest ∙ ap (with_tokens v.done) (cuts-token t.at l h x.real size x.is) ∙ with_tokens-more v.done one (cuts_from (t.at + size) 0 (drop (t.at + size) l));
-            count = omega (arith, length-append v.done (one ∷ []), v.count);
-            few = omega (arith, v.few, x.some_bytes);
-            depth_is = depth_then;
-            shallow = omega (arith, v.shallow, depth-by-le t.«open» kind, x.some_bytes);
-            arrow-is = arrow_snoc false v.done one ∙ given implies (omega arith);
-            words = words_then;
-          }
+        -- its record has its real kind, or goes to a sink that takes any
+        really : (b : Bool) → named ≡ b → {s s' : S} (at : ℕ) → takes s s' at (words_at place t.at kind size) → takes s s' at (words_at place t.at x.real size)
+        really true e {s} {s'} at m = subst (λ (k : ℕ). takes s s' at (words_at place t.at k size)) (sym (x.named.real e)) m
+        really false e {s} {s'} at m = laws.unnamed e s s' at (words_at place t.at kind size) (words_at place t.at x.real size) refl m
 
-      pub past-token : (t' : Cursor) → t' ≡ token_past t kind size → (tokens' : List ℕ)
-          → tokens' ≡ put_if place.write tokens (token_size * (place.first + t.n)) (words_at place t.at kind size) → Progress l d₀ place tokens₀ tokens' t'
-      past-token t' is tokens' written =
-          subst (λ (ts : List ℕ). Progress l d₀ place tokens₀ ts t') (sym written) (subst (Progress l d₀ place tokens₀ _) (sym is) past)
+        taken_then : {tokens' : S} → takes tokens tokens' (token_size * (place.first + t.n)) (words_at place t.at kind size)
+            → takes tokens₀ tokens' (token_size * place.first) (token_words place.start (place.line + 1) (v.done ++ (one ∷ [])))
+        taken_then m =
+            then-takes laws v.words (omega (arith, length_token_words place.start (place.line + 1) v.done, v.count)) (really named refl _ m)
+            (ap (λ (c : ℕ). before ++ (x.real ∷ (place.start + t.at) ∷ size ∷ (place.line + 1) ∷ c ∷ [])) (add-one t.at) ∙ sym (words_snoc place.start (place.line + 1) v.done one))
 
-      -- it has room where all tokens of the line have
-      pub room_for : (ts : List Token) → cuts_from 0 0 l ≡ cuts ts → t.n < length ts
-      unfolding with_tokens with_token
-      room_for ts all =
-          go (cuts_from (t.at + size) 0 (drop (t.at + size) l)) (v.rest ∙ ap (with_tokens v.done) (cuts-token t.at l h x.real size x.is))
-        where
-          go : (y : Cuts) → cuts_from 0 0 l ≡ with_tokens v.done (with_token one y) → t.n < length ts
-          go (cuts us) q =
-              let same : ts ≡ v.done ++ (one ∷ us) = cc in
-              omega (arith, ap length same, length-append v.done (one ∷ us), v.count)
-          go (stops f) q = let z : ◌≡◌ {A = ℕ} 0 1 = cc in absurd (omega arith)
+        pub past-token : (t' : Cursor) → t' ≡ token_past t kind size → {tokens' : S} → takes tokens tokens' (token_size * (place.first + t.n)) (words_at place t.at kind size)
+            → Progress takes l d₀ place tokens₀ tokens' t'
+        past-token t' is {tokens'} m =
+            subst (Progress takes l d₀ place tokens₀ tokens') (sym is)
+            (record {
+              done = v.done ++ (one ∷ []);
+              inside = x.in_line;
+              rest = v.rest ∙ ap (with_tokens v.done) (cuts-token t.at l h x.real size x.is) ∙ with_tokens-more v.done one (cuts_from (t.at + size) 0 (drop (t.at + size) l));
+              count = omega (arith, length-append v.done (one ∷ []), v.count);
+              few = omega (arith, v.few, x.some_bytes);
+              depth_is = depth_then;
+              shallow = omega (arith, v.shallow, depth-by-le t.depth kind, x.some_bytes);
+              arrow-is = arrow_snoc false v.done one ∙ given implies (omega arith);
+              words = taken_then m;
+            })
 
-  -- The line is done: all that was cut stands there, or the pass does not write.
+        -- it has room where all tokens of the line have
+        room_for : (ts : List Token) → cuts_from 0 0 l ≡ cuts ts → t.n < length ts
+        unfolding with_tokens with_token
+        room_for ts all =
+            go (cuts_from (t.at + size) 0 (drop (t.at + size) l)) (v.rest ∙ ap (with_tokens v.done) (cuts-token t.at l h x.real size x.is))
+          where
+            go : (y : Cuts) → cuts_from 0 0 l ≡ with_tokens v.done (with_token one y) → t.n < length ts
+            go (cuts us) q =
+                let same : ts ≡ v.done ++ (one ∷ us) = cc in
+                omega (arith, ap length same, length-append v.done (one ∷ us), v.count)
+            go (stops f) q = let z : ◌≡◌ {A = ℕ} 0 1 = cc in absurd (omega arith)
 
-  abbrev Done : LineCuts → Type 0
-  Done r = (r ≡ line_cuts_of d₀ (cuts_from 0 0 l)) × (tokens ≡ put_if place.write tokens₀ (token_size * place.first) (token_words place.start (place.line + 1) (tokens_of (cuts_from 0 0 l))))
+        -- The cursor may pass it, it has room, and the cursor goes on.
+        pub may_pass : (place.start + length l ≤ 1_048_576) × ((place.line ≤ 4_194_304) × ((place.first ≤ 4_194_304) × (d₀ ≤ 4_194_304)))
+            → (place.start + (t.at + size) ≤ 1_048_576) × ((place.line ≤ 4_194_304) × ((place.first ≤ 4_194_304) × ((t.n ≤ 8_388_608) × (t.depth ≤ 8_388_608))))
+        may_pass small =
+            (omega (arith, small.0, x.in_line), (small.1.0, (small.1.1.0, (omega (arith, small.0, h, v.few), omega (arith, small.0, small.1.1.1, h, v.shallow)))))
 
-  pub ended : cuts_from 0 0 l ≡ cuts v.done → Done (Ends t.n t.«open» t.arrow)
-  ended e = (
-    (λ i. Ends (sym v.count i) (sym v.depth_is i) (sym v.arrow-is i)) ∙ ap (line_cuts_of d₀) (sym e),
-    v.words ∙ ap (λ (x : Cuts). put_if place.write tokens₀ (token_size * place.first) (token_words place.start (place.line + 1) (tokens_of x))) (sym e),
-  )
+        pub has_room : Room (fits tokens₀) place (tokens_of (cuts_from 0 0 l)) → fits tokens (token_size * (place.first + t.n) + token_size)
+        has_room room = go (cuts_from 0 0 l) refl room
+          where
+            go : (y : Cuts) → cuts_from 0 0 l ≡ y → Room (fits tokens₀) place (tokens_of y) → fits tokens (token_size * (place.first + t.n) + token_size)
+            go (cuts ts) e r = fits_after laws v.words (omega (arith, room_for ts e)) r
+            go (stops f) e r = laws.keeps tokens₀ tokens _ _ _ v.words (r _)
 
-  pub stopped : (f : Failure) (m : ℕ) → cuts_from 0 0 l ≡ stops f → (place.write ≡ true → RoomFor (cuts_from 0 0 l) place.first m) → Done (Stops (failure_in f))
-  stopped f m e room = (
-    ap (line_cuts_of d₀) (sym e),
-    v.words ∙ put_if-by place.write tokens₀ (token_size * place.first) (token_words place.start (place.line + 1) v.done) (token_words place.start (place.line + 1) (tokens_of (cuts_from 0 0 l)))
-        (λ w. absurd (subst (λ (x : Cuts). RoomFor x place.first m) e (room w))),
-  )
+        pub goes_on : (t' : Cursor) → t' ≡ token_past t kind size → length l - t'.at < length l - t.at
+        goes_on t' e = omega (arith, ap (λ (y : Cursor). y.at) e, x.some_bytes, h)
 
--- a letter that does not begin `b'`
-pub word-begins : (a b : Bool) → (a && not b) ≡ true → (a ≡ true) × (b ≡ false)
-word-begins true false e = (refl, refl)
-word-begins true true e = absurd (false≢true e)
-word-begins false b e = absurd (false≢true e)
+    pub ended : cuts_from 0 0 l ≡ cuts v.done → (e : Ends) → (e.count ≡ t.n) × (e.depth ≡ t.depth) × (e.arrow ≡ t.arrow) → Done takes l d₀ place tokens₀ tokens (Ok e)
+    ended x e (n, d, a) = record {
+      value = (λ i. Ok (record { count = (n ∙ sym v.count) i; depth = (d ∙ sym v.depth_is) i; arrow = (a ∙ sym v.arrow-is) i })) ∙ ap (line_cuts_of d₀) (sym x);
+      taken = rw x v.words;
+    }
+
+    pub stopped : (f : Failure) → cuts_from 0 0 l ≡ stops f → Done takes l d₀ place tokens₀ tokens (Err (failure_in f))
+    stopped f e = record { value = ap (line_cuts_of d₀) (sym e); taken = rw e tt }

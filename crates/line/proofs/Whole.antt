@@ -1,30 +1,30 @@
 -- A whole line: what stands at its start, its cuts, its Newline.
 -- Assumes nothing.
 use Prim.Native.Nat.{ℕ, ◌+◌, ◌*◌, ◌≤◌}
-use mathlib.Core.Path.{◌≡◌, refl, sym, ap, subst, ◌∙◌}
-use mathlib.Core.Bool.{Bool, true, false}
+use mathlib.Core.Path.{◌≡◌, refl, sym, ap, ◌∙◌}
+use mathlib.Core.Bool.{Bool, false}
 use mathlib.Core.List.{List, [], ◌∷◌, ◌++◌, append_assoc}
 use native.Mathlib.Omega.{arith}
 use native.Mathlib.Numerals.{add-one}
-use lib.ListN.{length, take, length-append}
+use lib.ListN.{length, length-append}
 use Rattle.rules.specs.Kinds.{newline}
-use Rattle.rules.specs.Failure.{Failure, failure, bad_indent}
-use Rattle.rules.specs.Limits.{max_levels, LineLimits}
+use Rattle.rules.specs.Failure.{failure, bad_indent}
+use Rattle.rules.specs.Limits.{LineLimits}
 use Rattle.rules.specs.Line.{Token, token_at, Cuts, cuts, stops, cuts_from, depth_after, arrow_after, State, levels, unequal, beyond, indent_size, levels_of, failed, over_limit, LineReply, line_halts, with_cuts, with_levels, read_line}
 use Rattle.rules.specs.Records.{token_size, token_words}
 use Rattle.rules.proofs.RecordLaws.{length_token_words}
 use Rattle.rules.proofs.BoundLaws.{cuts-ok}
-use Rattle.laws.specs.Puts.{put_if}
-use Rattle.laws.proofs.Puts.{put_if_append, put_if-by}
+use Rattle.records.specs.Sinks.{SinkLaws}
+use Rattle.records.specs.Words.{words_at}
+use Rattle.records.specs.declared.Place.{Place}
+use Rattle.records.proofs.Takes.{then-takes, fits_after}
+use Rattle.std.specs.Prelude.{Option, Result, Ok, Err}
 use Rattle.literals.specs.declared.Failure as code
-use Rattle.levels.specs.Levels.{leading, compared_of}
-use Rattle.levels.specs.declared.Compared.{Compared}
-use Rattle.levels.specs.declared.Compared.TheVariants as compared-variants
-use Rattle.line.specs.declared.LineRead.{LineRead}
-use Rattle.line.specs.LineCuts.{line_cuts_of, tokens_of, RoomFor, whole_line, line_read_of, tokens_in, RoomIn, counted_reads, counted, counted_of, LevelsWithin}
+use Rattle.levels.specs.Levels.{leading}
 use Rattle.levels.specs.declared.Lead.{Lead}
-use Rattle.line.specs.declared.LineCuts.{LineCuts}
-use Rattle.line.specs.declared.LineCuts.TheVariants.{Ends, Stops}
+use Rattle.line.specs.LineCuts.{failure_in, line_cuts_of, tokens_of, Room, Taken, whole_line, whole_of, tokens_in, counted_reads, counted, counted_of}
+use Rattle.line.specs.declared.Ends.{Ends}
+use Rattle.line.specs.declared.Halt.TheVariants.{Fails}
 
 pub words_append : (p l : ℕ) (xs ys : List Token) → token_words p l (xs ++ ys) ≡ token_words p l xs ++ token_words p l ys
 unfolding token_words
@@ -33,125 +33,108 @@ words_append p l (x ∷ xs) ys = rw (words_append p l xs ys)
 
 -- The answers of the cuts.
 
-pub line-ends : (d : ℕ) (x : Cuts) (n o : ℕ) (a : Bool) → line_cuts_of d x ≡ Ends n o a → (ts : List Token) × (x ≡ cuts ts) × (length ts ≡ n)
-line-ends d (cuts ts) n o a e = (ts, refl, cc)
-line-ends d (stops f) n o a e = let z : ◌≡◌ {A = ℕ} 0 1 = cc in absurd (omega arith)
-
-pub line-stops : (d : ℕ) (x : Cuts) (g : code.Failure) → line_cuts_of d x ≡ Stops g → (f : Failure) × (x ≡ stops f)
-line-stops d (cuts ts) g e = let z : ◌≡◌ {A = ℕ} 0 1 = cc in absurd (omega arith)
-line-stops d (stops f) g e = (f, refl)
+pub line-ends : (d : ℕ) (x : Cuts) (e : Ends) → Ok e ≡ line_cuts_of d x → (ts : List Token) × (x ≡ cuts ts) × (length ts ≡ e.count)
+line-ends d (cuts ts) e q = let c : e.count ≡ length ts = cc in (ts, refl, sym c)
+line-ends d (stops f) e q = let z : ◌≡◌ {A = ℕ} 0 1 = cc in absurd (omega arith)
 
 pub few-tokens : (line : List ℕ) (ts : List Token) → cuts_from 0 0 line ≡ cuts ts → length ts ≤ length line
 few-tokens line ts e = (cuts-ok 0 0 line ts e).0
 
-module _ (lead : Lead) (line : List ℕ) (k n : ℕ) where
-  pub room_lead : (x : Cuts) → RoomFor (whole_line lead line x) k n → token_size * (k + length (leading lead)) ≤ n
-  room_lead (cuts ts) h = omega (arith, h, length-append (leading lead) (ts ++ (token_at newline (length line) 0 ∷ [])))
-  room_lead (stops f) h = absurd h
+-- The room and the words of the three parts, one behind the other.
+module _ {S : Type 0} {fits : S → ℕ → Type 0} {takes : S → S → ℕ → List ℕ → Type 0} {named : Bool} (laws : SinkLaws fits takes named) (lead : Lead) (line : List ℕ) (place : Place) where
+  abbrev all : Cuts → Option (List Token)
+  all x = tokens_of (whole_line lead line x)
 
-  pub room-inside : (x : Cuts) → RoomFor (whole_line lead line x) k n → RoomFor x (k + length (leading lead)) n
-  room-inside (cuts ts) h =
-      omega (arith, h, length-append (leading lead) (ts ++ (token_at newline (length line) 0 ∷ [])), length-append ts (token_at newline (length line) 0 ∷ []))
-  room-inside (stops f) h = h
+  abbrev nl : List Token
+  nl = token_at newline (length line) 0 ∷ []
 
-  pub room-end : (x : Cuts) (ts : List Token) → x ≡ cuts ts → RoomFor (whole_line lead line x) k n → token_size * (k + length (leading lead) + length ts) + 5 ≤ n
-  room-end x ts e h =
-      let g = subst (λ (y : Cuts). RoomFor (whole_line lead line y) k n) e h in
-      omega (arith, g, length-append (leading lead) (ts ++ (token_at newline (length line) 0 ∷ [])), length-append ts (token_at newline (length line) 0 ∷ []))
+  -- where the cuts go, behind m tokens
+  abbrev inner : ℕ → Place
+  inner m = record { line = place.line; first = place.first + m; start = place.start }
 
--- The words: the three parts one after the other.
+  -- the words of what stands at the line's start and of these tokens
+  abbrev two : List Token → List ℕ
+  two ts = token_words place.start (place.line + 1) (leading lead ++ ts)
 
-module _ (lead : Lead) (line : List ℕ) (p l k m : ℕ) (w : Bool) (t₀ t₁ t₂ : List ℕ) (x : Cuts)
-    (many : m ≡ length (leading lead))
-    (e₁ : t₁ ≡ put_if w t₀ (token_size * k) (token_words p l (leading lead)))
-    (e₂ : t₂ ≡ put_if w t₁ (token_size * (k + m)) (token_words p l (tokens_of x)))
-  where
-    joined : t₂ ≡ put_if w t₀ (token_size * k) (token_words p l (leading lead ++ tokens_of x))
-    joined =
-        e₂ ∙ ap (λ (t : List ℕ). put_if w t (token_size * (k + m)) (token_words p l (tokens_of x))) e₁
-        ∙ put_if_append w t₀ (token_size * k) (token_size * (k + m)) (token_words p l (leading lead)) (token_words p l (tokens_of x)) (omega (arith, length_token_words p l (leading lead)))
-        ∙ ap (put_if w t₀ (token_size * k)) (sym (words_append p l (leading lead) (tokens_of x)))
+  module _ {m : ℕ} {t₀ t₁ : S} (many : m ≡ length (leading lead)) (e₁ : takes t₀ t₁ (token_size * place.first) (token_words place.start (place.line + 1) (leading lead))) where
+    pub room-inside : (x : Cuts) → Room (fits t₀) place (all x) → Room (fits t₁) (inner m) (tokens_of x)
+    room-inside (cuts ts) h = fits_after laws e₁ (omega (arith, many, length-append (leading lead) (ts ++ nl), length-append ts nl)) h
+    room-inside (stops f) h = λ n. laws.keeps t₀ t₁ _ _ n e₁ (h n)
 
-    pub whole-ends : (ts : List Token) (n : ℕ) (t₃ : List ℕ) → x ≡ cuts ts → length ts ≡ n
-        → t₃ ≡ put_if w t₂ (token_size * (k + (m + n))) (newline ∷ (p + length line) ∷ 0 ∷ l ∷ (length line + 1) ∷ [])
-        → t₃ ≡ put_if w t₀ (token_size * k) (token_words p l (tokens_of (whole_line lead line x)))
-    unfolding token_words
-    whole-ends ts n t₃ e count e₃ =
-        let end : List ℕ = newline ∷ (p + length line) ∷ 0 ∷ l ∷ (length line + 1) ∷ [] in
-        let nl : List Token = token_at newline (length line) 0 ∷ [] in
-        let two : List ℕ = token_words p l (leading lead ++ ts) in
-        let two_is : t₂ ≡ put_if w t₀ (token_size * k) two = joined ∙ ap (λ (y : Cuts). put_if w t₀ (token_size * k) (token_words p l (leading lead ++ tokens_of y))) e in
-        let long : token_size * (k + (m + n)) ≡ token_size * k + length two = omega (arith, length_token_words p l (leading lead ++ ts), length-append (leading lead) ts) in
-        let end_is : end ≡ token_words p l nl = ap (λ (i : ℕ). newline ∷ (p + length line) ∷ 0 ∷ l ∷ i ∷ []) (add-one (length line)) in
-        e₃ ∙ ap (λ (t : List ℕ). put_if w t (token_size * (k + (m + n))) end) two_is
-        ∙ put_if_append w t₀ (token_size * k) (token_size * (k + (m + n))) two end long
-        ∙ ap (λ (v : List ℕ). put_if w t₀ (token_size * k) (two ++ v)) end_is
-        ∙ ap (put_if w t₀ (token_size * k)) (sym (words_append p l (leading lead ++ ts) nl) ∙ ap (token_words p l) (append_assoc (leading lead) ts nl))
-        ∙ ap (λ (y : Cuts). put_if w t₀ (token_size * k) (token_words p l (tokens_of (whole_line lead line y)))) (sym e)
+    module _ {n : ℕ} (ts : List Token) (count : length ts ≡ n) where
+      long : token_size * (place.first + (m + n)) ≡ token_size * place.first + length (two ts)
+      long = omega (arith, length_token_words place.start (place.line + 1) (leading lead ++ ts), length-append (leading lead) ts, many, count)
 
-    pub whole-stops : (n : ℕ) (f : Failure) → x ≡ stops f → (w ≡ true → RoomFor (whole_line lead line x) k n)
-        → t₂ ≡ put_if w t₀ (token_size * k) (token_words p l (tokens_of (whole_line lead line x)))
-    whole-stops n f e room =
-        joined ∙ put_if-by w t₀ (token_size * k) (token_words p l (leading lead ++ tokens_of x)) (token_words p l (tokens_of (whole_line lead line x)))
-        (λ h. absurd (subst (λ (y : Cuts). RoomFor (whole_line lead line y) k n) e (room h)))
+      joined : {t₂ : S} → takes t₁ t₂ (token_size * (place.first + m)) (token_words place.start (place.line + 1) ts) → takes t₀ t₂ (token_size * place.first) (two ts)
+      joined e₂ =
+          then-takes laws e₁ (omega (arith, many, length_token_words place.start (place.line + 1) (leading lead))) e₂ (sym (words_append place.start (place.line + 1) (leading lead) ts))
+
+      pub room-end : {t₂ : S} (x : Cuts) → x ≡ cuts ts → Room (fits t₀) place (all x) → Taken (takes t₁ t₂) (inner m) (tokens_of x) → fits t₂ (token_size * (place.first + (m + n)) + token_size)
+      room-end x e h e₂ =
+          fits_after laws (joined (rw e at e₂)) (omega (arith, many, count, length-append (leading lead) (ts ++ nl), length-append ts nl)) (rw e at h)
+
+      pub whole-ends : {t₂ t₃ : S} (x : Cuts) → x ≡ cuts ts → Taken (takes t₁ t₂) (inner m) (tokens_of x) → takes t₂ t₃ (token_size * (place.first + (m + n))) (words_at place (length line) newline 0)
+          → Taken (takes t₀ t₃) place (all x)
+      unfolding token_words
+      whole-ends x e e₂ e₃ =
+          rw e
+          (then-takes laws (joined (rw e at e₂)) long e₃
+          (ap (λ (i : ℕ). two ts ++ (newline ∷ (place.start + length line) ∷ 0 ∷ (place.line + 1) ∷ i ∷ [])) (add-one (length line)) ∙ sym (words_append place.start (place.line + 1) (leading lead ++ ts) nl)
+          ∙ ap (token_words place.start (place.line + 1)) (append_assoc (leading lead) ts nl)))
 
 -- The reply of a line whose levels are known.
 
 module _ (lim : LineLimits) (st : State) (line : List ℕ) where
-  read-levels : (ls : List Token) (ws : List ℕ) → levels_of lim st line ≡ levels ls ws → read_line lim st line ≡ with_cuts st line ls ws (cuts_from 0 0 line)
+  pub read-unequal : levels_of lim st line ≡ unequal → read_line lim st line ≡ line_halts (failed (failure bad_indent 0 0 (indent_size line)))
   unfolding read_line with_levels
-  read-levels ls ws e = rw e
+  read-unequal e = rw e
 
-  pub read-unequal : (r : Compared) (widths : List ℕ) → compared_of r widths ≡ levels_of lim st line → r ≡ compared-variants.Unequal → read_line lim st line ≡ line_halts (failed (failure bad_indent 0 0 (indent_size line)))
+  pub read-beyond : (number : ℕ) → levels_of lim st line ≡ beyond number → read_line lim st line ≡ line_halts (over_limit number)
   unfolding read_line with_levels
-  read-unequal r widths e q = let f : levels_of lim st line ≡ unequal = sym e ∙ ap (λ (x : Compared). compared_of x widths) q in rw f
+  read-beyond number e = rw e
 
-  pub read-beyond : (r : Compared) (widths : List ℕ) (number : ℕ) → compared_of r widths ≡ levels_of lim st line → r ≡ compared-variants.Beyond number
-      → read_line lim st line ≡ line_halts (over_limit number)
-  unfolding read_line with_levels
-  read-beyond r widths number e q = let f : levels_of lim st line ≡ beyond number = sym e ∙ ap (λ (x : Compared). compared_of x widths) q in rw f
-
-  pub levels-known : (r : Compared) (lead : Lead) (widths : List ℕ) → compared_of r widths ≡ levels_of lim st line → r ≡ compared-variants.Levels lead
-      → levels_of lim st line ≡ levels (leading lead) (take lead.levels widths)
-  levels-known r lead widths e q = sym e ∙ ap (λ (x : Compared). compared_of x widths) q
-
-  module _ (lead : Lead) (widths : List ℕ) (e : levels_of lim st line ≡ levels (leading lead) (take lead.levels widths)) where
+  module _ (lead : Lead) (s : State) (e : levels_of lim st line ≡ levels (leading lead) s.widths) (d : s.depth ≡ st.depth) where
     abbrev reply : Cuts → LineReply
-    reply x = with_cuts st line (leading lead) (take lead.levels widths) x
+    reply x = with_cuts st line (leading lead) s.widths x
 
     known : read_line lim st line ≡ reply (cuts_from 0 0 line)
-    known = read-levels (leading lead) (take lead.levels widths) e
+    unfolding read_line with_levels
+    known = rw e
 
-    reply-counted : (x : Cuts) → counted_of (line_read_of lead (line_cuts_of st.depth x)) widths ≡ counted (reply x)
+    reply-counted : (x : Cuts) (n : ℕ) (z : State) → (Ok n, z) ≡ whole_of lead s x → counted_of (Ok n) z ≡ counted (reply x)
     unfolding with_cuts
-    reply-counted (cuts ts) =
-        let z : State = record { depth = depth_after st.depth ts; arrow = arrow_after false ts; widths = take lead.levels widths } in
-        ap (λ (n : ℕ). counted_reads n z)
+    reply-counted (cuts ts) n z q =
+        let o : Ok n ≡ Ok (length (leading lead) + length ts + 1) = ap (λ (p : Result ℕ code.Failure × State). p.0) q in
+        let m : n ≡ length (leading lead) + length ts + 1 = cc in
+        let w : z ≡ record { depth = depth_after s.depth ts; arrow = arrow_after false ts; widths = s.widths } = ap (λ (p : Result ℕ code.Failure × State). p.1) q in
+        let after : ℕ → State = λ k. record { depth = depth_after k ts; arrow = arrow_after false ts; widths = s.widths } in
+        (λ i. counted_reads (m i) (w i)) ∙ ap (λ (k : ℕ). counted_reads (length (leading lead) + length ts + 1) (after k)) d
+        ∙ ap (λ (k : ℕ). counted_reads k (after st.depth))
         (omega (arith, length-append (leading lead) (ts ++ (token_at newline (length line) 0 ∷ [])), length-append ts (token_at newline (length line) 0 ∷ [])))
-    reply-counted (stops f) = refl
+    reply-counted (stops f) n z q =
+        let o : Ok n ≡ Err (failure_in f) = ap (λ (p : Result ℕ code.Failure × State). p.0) q in
+        let b : ◌≡◌ {A = ℕ} 0 1 = cc in absurd (omega arith)
+
+    reply-failed : (x : Cuts) (f : code.Failure) (z : State) → (Err f, z) ≡ whole_of lead s x → counted_of (Err (Fails f)) z ≡ counted (reply x)
+    unfolding with_cuts
+    reply-failed (cuts ts) f z q =
+        let o : Err f ≡ Ok (length (leading lead) + length ts + 1) = ap (λ (p : Result ℕ code.Failure × State). p.0) q in
+        let b : ◌≡◌ {A = ℕ} 0 1 = cc in absurd (omega arith)
+    reply-failed (stops g) f z q =
+        let o : Err f ≡ Err (failure_in g) = ap (λ (p : Result ℕ code.Failure × State). p.0) q in
+        let m : f ≡ failure_in g = cc in
+        ap (λ (h : code.Failure). counted_of (Err (Fails h)) z) m
 
     reply-tokens : (x : Cuts) → tokens_of (whole_line lead line x) ≡ tokens_in (reply x)
     unfolding with_cuts
     reply-tokens (cuts ts) = refl
     reply-tokens (stops f) = refl
 
-    reply-room : (x : Cuts) (k n : ℕ) → RoomIn (reply x) k n → RoomFor (whole_line lead line x) k n
-    unfolding with_cuts
-    reply-room (cuts ts) k n h = h
-    reply-room (stops f) k n h = h
+    pub line-counted : (n : ℕ) (z : State) → (Ok n, z) ≡ whole_of lead s (cuts_from 0 0 line) → counted_of (Ok n) z ≡ counted (read_line lim st line)
+    line-counted n z q = reply-counted (cuts_from 0 0 line) n z q ∙ ap counted (sym known)
 
-    pub line-counted : (r : LineRead) → r ≡ line_read_of lead (line_cuts_of st.depth (cuts_from 0 0 line)) → counted_of r widths ≡ counted (read_line lim st line)
-    line-counted r q = ap (λ (x : LineRead). counted_of x widths) q ∙ reply-counted (cuts_from 0 0 line) ∙ ap counted (sym known)
+    pub line-failed : (f : code.Failure) (z : State) → (Err f, z) ≡ whole_of lead s (cuts_from 0 0 line) → counted_of (Err (Fails f)) z ≡ counted (read_line lim st line)
+    line-failed f z q = reply-failed (cuts_from 0 0 line) f z q ∙ ap counted (sym known)
 
     pub line-tokens : tokens_of (whole_line lead line (cuts_from 0 0 line)) ≡ tokens_in (read_line lim st line)
     line-tokens = reply-tokens (cuts_from 0 0 line) ∙ ap tokens_in (sym known)
-
-    pub line-room : (k n : ℕ) → RoomIn (read_line lim st line) k n → RoomFor (whole_line lead line (cuts_from 0 0 line)) k n
-    line-room k n h = reply-room (cuts_from 0 0 line) k n (subst (λ (x : LineReply). RoomIn x k n) known h)
-
-pub levels-within : (lead : Lead) (x : LineCuts) (r : LineRead) → r ≡ line_read_of lead x → lead.levels ≤ max_levels → LevelsWithin r
-levels-within lead x r e h = subst LevelsWithin (sym e) (go x)
-  where
-    go : (y : LineCuts) → LevelsWithin (line_read_of lead y)
-    go (Ends n o a) = h
-    go (Stops f) = tt

@@ -1,194 +1,178 @@
 // One line, read from the state before it.
 #![tactic(auto)]
 
-ghost use Rattle.std.specs.Prelude.{◌≡◌, true, not, ◌&&◌, ◌+◌, ◌*◌, ◌≤◌, ◌<◌, eqb, length, drop};
-ghost use Rattle.laws.specs.Puts.{put_if};
-ghost use Rattle.rules.specs.Lists.{ascii, begins, run};
-ghost use Rattle.rules.specs.Tables.{letter_class};
+ghost use Rattle.std.specs.Prelude.{◌≡◌, ◌+◌, ◌≤◌, length, Ok};
+ghost use Rattle.rules.specs.Lists.{run};
 ghost use Rattle.rules.specs.Line.{moved_by, is_space, levels_of, cuts_from, read_line};
-ghost use Rattle.rules.specs.Limits.{max_levels};
-ghost use Rattle.rules.specs.Records.{token_size, token_words};
-ghost use Rattle.tables.specs.All.{all_tables};
 ghost use Rattle.literals.specs.Cuts.{failure_of};
-ghost use Rattle.records.specs.States.{state_of};
 ghost use Rattle.refusals.specs.Limits.{line_limits_of};
-ghost use Rattle.levels.specs.Levels.{widths_after};
-ghost use Rattle.line.specs.LineCuts.{line_cuts_of, tokens_of, RoomFor, failure_in, whole_line, line_read_of, tokens_in, RoomIn, counted, counted_of, LevelsWithin};
+ghost use Rattle.levels.specs.Levels.{with_widths, Within};
+ghost use Rattle.line.specs.LineCuts.{line_cuts_of, tokens_of, Room, Taken, failure_in, whole_line, whole_of, tokens_in, counted, counted_of};
+
+use cursor::Cursor;
+use cut::Cut;
+use levels::{Lead, Misfit};
+use literals::{Failure, detail};
+use records::{Place, Sink, State};
+use refusals::LineLimits;
+use tables::{Class, Run, Tables, kinds};
 
 // A failure of the rest of a line from `at` on, as one of the line.
-fn moved_by(at: usize, f: literals::Failure) -> literals::Failure
+fn moved_by(at: usize, f: Failure) -> Failure
     requires { at + f.at ≤ 1_048_576 }
     ensures { result ≡ failure_in (moved_by at (failure_of f)) }
 {
-    literals::Failure {
-        detail: f.detail,
-        found: f.found,
-        at: at + f.at,
-        size: f.size,
-    }
+    Failure { at: at + f.at, ..f }
 }
 
-// What the cuts of a line give: the number of tokens, the depth after them and whether the last one is an arrow; or the first failure.
+// What the cuts of a line that reads give: the number of tokens, the depth after them and whether the last one is an arrow.
 #[derive(Clone, Copy)]
-pub enum LineCuts {
-    Ends(usize, u32, bool),
-    Stops(literals::Failure),
+pub struct Ends {
+    pub count: usize,
+    pub depth: u32,
+    pub arrow: bool,
 }
 
-// A word begins at `at`, where a byte of class c stands: a letter, and not `b'`.
-fn is_word(c: u8, line: &[u8], at: usize) -> bool
-    requires { at < length line.now }
-    ensures { result ≡ (eqb c letter_class && not (begins (ascii "b'") (drop at line.now))) }
+// What the cursor has come to at the end of a line.
+fn ends_at(t: Cursor) -> Ends
+    ensures { (result.count ≡ t.n) × (result.depth ≡ t.depth) × (result.arrow ≡ t.arrow) }
 {
-    if c != 2 {
-        return false;
+    Ends {
+        count: t.n,
+        depth: t.depth,
+        arrow: t.arrow,
     }
-    !cut::begins_literal(line, at)
 }
 
 // The tokens of a line that begins with so many spaces. Words, numbers, signs and `#` are told in the loop itself, the others are called
-// for. A pass that does not write asks for no kinds of words.
-fn cut_line(
-    tables: &[u8; tables::SIZE],
+// for. A sink that keeps no records asks for no kinds of words. A turn passes what it cuts, so no range gives the offsets.
+fn cut_line<S: Sink>(
+    tables: &Tables,
     line: &[u8],
     spaces: usize,
-    tokens: &mut [u32],
-    place: records::Place,
+    tokens: &mut S,
+    place: Place,
     depth: u32,
-) -> LineCuts
-    requires tables_value { tables.now ≡ all_tables }
+) -> Result<Ends, Failure>
     requires spaces_value { spaces ≡ run is_space line.now }
-    requires line_bound { (place.start + length line.now ≤ 1_048_576) × ((place.line ≤ 4_194_304) × (depth ≤ 4_194_304)) }
-    requires room_for { place.write ≡ true → RoomFor (cuts_from 0 0 line.now) place.first (length tokens.old) }
+    requires line_bound { (place.start + length line.now ≤ 1_048_576) × ((place.line ≤ 4_194_304) × ((place.first ≤ 4_194_304) × (depth ≤ 4_194_304))) }
+    requires room { Room (S.fits tokens.old) place (tokens_of (cuts_from 0 0 line.now)) }
     ensures value { result ≡ line_cuts_of depth (cuts_from 0 0 line.now) }
-    ensures tokens_after { tokens.new ≡ put_if place.write tokens.old (token_size * place.first) (token_words place.start (place.line + 1) (tokens_of (cuts_from 0 0 line.now))) }
+    ensures taken { Taken (S.takes tokens.old tokens.new) place (tokens_of (cuts_from 0 0 line.now)) }
 {
+    let named = tokens.is_named();
     let mut t = cursor::cursor_at(spaces, depth);
     while t.at < line.len() {
         let at = t.at;
-        let c = runs::class_of(tables, line[at]);
-        if c == 0 {
-            t = cursor::past_blank(t);
-            continue;
-        }
-        if c == 1 {
-            return LineCuts::Ends(t.n, t.open, t.arrow);
-        }
-        if is_word(c, line, at) {
-            let end = runs::run_end(tables, line, at, 0);
-            let kind = cut::kind_of_word(tables, line, at, end, place.write);
-            t = cursor::past_token(tokens, place, t, kind, end - at);
-            continue;
-        }
-        if c == 3 {
-            let number = numbers::scan_number(tables, line, at);
-            t = cursor::past_token(tokens, place, t, 46, number.end);
-            continue;
-        }
-        if c == 5 {
-            let code = signs::sign_code(tables, line, at);
-            if 1 < code {
-                t = cursor::past_sign(tokens, place, t, code);
+        match tables.class_of(line[at]) {
+            Class::Blank => {
+                t = cursor::past_blank(t);
                 continue;
             }
+            Class::Hash => return Ok(ends_at(t)),
+            Class::Letter if !cut::begins_literal(line, at) => {
+                let end = runs::run_end(tables, line, at, Run::Word);
+                let kind = cut::kind_of_word(tables, line, at, end, named);
+                t = cursor::past_token(tokens, place, t, kind, end - at);
+                continue;
+            }
+            Class::Digit => {
+                let number = numbers::scan_number(tables, line, at);
+                t = cursor::past_token(tokens, place, t, kinds::NUM, number.end);
+                continue;
+            }
+            Class::Sign => {
+                let code = signs::sign_code(tables, line, at);
+                if 1 < code {
+                    t = cursor::past_sign(tokens, place, t, code);
+                    continue;
+                }
+            }
+            _ => {}
         }
-        match cut::cut_by_class(tables, line, at, place.write) {
-            literals::Cut::Blank => t = cursor::past_blank(t),
-            literals::Cut::Comment => return LineCuts::Ends(t.n, t.open, t.arrow),
-            literals::Cut::Token(kind, size) => {
-                t = cursor::past_token(tokens, place, t, kind, size)
+        match cut::cut_by_class(tables, line, at, named) {
+            Ok(Cut::Blank) => t = cursor::past_blank(t),
+            Ok(Cut::Comment) => return Ok(ends_at(t)),
+            Ok(Cut::Token(kind, size)) => t = cursor::past_token(tokens, place, t, kind, size),
+            Ok(Cut::Number(number)) => {
+                t = cursor::past_token(tokens, place, t, kinds::NUM, number.end)
             }
-            literals::Cut::Number(number) => {
-                t = cursor::past_token(tokens, place, t, 46, number.end)
-            }
-            literals::Cut::Fails(f) => return LineCuts::Stops(moved_by(at, f)),
+            Err(f) => return Err(moved_by(at, f)),
         }
     }
-    LineCuts::Ends(t.n, t.open, t.arrow)
+    Ok(ends_at(t))
 }
 
-// What a line gives: the number of its tokens and the state after it; or its failure; or a limit's refusal, by its number.
+// Why a line does not read: its failure; or a limit's refusal, by its number.
 #[derive(Clone, Copy)]
-pub enum LineRead {
-    Reads(usize, records::State),
-    Fails(literals::Failure),
+pub enum Halt {
+    Fails(Failure),
     OverLimit(u32),
 }
 
-// A line whose levels are known: what stands at its start, its cuts, and the Newline.
-fn cut_after(
-    tables: &[u8; tables::SIZE],
-    line: &[u8],
-    spaces: usize,
-    tokens: &mut [u32],
-    place: records::Place,
-    depth: u32,
-    lead: levels::Lead,
-) -> LineRead
-    requires tables_value { tables.now ≡ all_tables }
-    requires line_bound { (place.start + length line.now ≤ 1_048_576) × ((place.line ≤ 4_194_304) × ((place.first ≤ 3_000_000) × (depth ≤ 4_194_304))) }
-    requires closes_le_max_levels { (lead.closes ≤ max_levels) × (spaces ≡ run is_space line.now) }
-    requires room_for { place.write ≡ true → RoomFor (whole_line lead line.now (cuts_from 0 0 line.now)) place.first (length tokens.old) }
-    ensures value { result ≡ line_read_of lead (line_cuts_of depth (cuts_from 0 0 line.now)) }
-    ensures tokens_after { tokens.new ≡ put_if place.write tokens.old (token_size * place.first) (token_words place.start (place.line + 1) (tokens_of (whole_line lead line.now (cuts_from 0 0 line.now)))) }
-{
-    let m = cursor::put_leading(tokens, place, lead);
-    let first = place.first + m;
-    let inner = records::Place {
-        write: place.write,
-        line: place.line,
-        first: first,
-        start: place.start,
-    };
-    match cut_line(tables, line, spaces, tokens, inner, depth) {
-        LineCuts::Ends(n, open, arrow) => {
-            let count = m + n;
-            let size = line.len() as u32;
-            records::put_token(tokens, place, count, 92, size, 0);
-            LineRead::Reads(
-                count + 1,
-                records::State {
-                    depth: open,
-                    arrow: arrow,
-                    levels: lead.levels,
-                },
-            )
-        }
-        LineCuts::Stops(f) => LineRead::Fails(f),
+impl From<Failure> for Halt {
+    ghost use Rattle.line.specs.declared.Halt.TheVariants.{Fails};
+
+    ghost from_gives = { λ f h. h ≡ Fails f };
+
+    fn from(f: Failure) -> Halt {
+        Halt::Fails(f)
     }
 }
 
-// One line from the state before it; `widths` holds the open levels and then those after the line.
-pub fn read_line(
-    tables: &[u8; tables::SIZE],
+// A line whose levels are known: what stands at its start, its cuts, and the Newline; the number of its tokens.
+fn cut_after<S: Sink>(
+    tables: &Tables,
     line: &[u8],
-    tokens: &mut [u32],
-    place: records::Place,
-    limits: refusals::LineLimits,
-    widths: &mut [u32],
-    s: records::State,
-) -> LineRead
-    requires tables_value { tables.now ≡ all_tables }
-    requires line_bound { (place.start + length line.now ≤ 1_048_576) × ((place.line ≤ 4_194_304) × ((place.first ≤ 3_000_000) × (s.depth ≤ 4_194_304))) }
-    requires widths_len { (length widths.old ≡ max_levels) × (s.levels ≤ max_levels) × (limits.levels ≤ max_levels) }
-    requires room_in { place.write ≡ true → RoomIn (read_line (line_limits_of limits) (state_of s widths.old) line.now) place.first (length tokens.old) }
-    ensures widths_after { counted_of result widths.new ≡ counted (read_line (line_limits_of limits) (state_of s widths.old) line.now) }
-    ensures levels_within { LevelsWithin result }
-    ensures widths_after_2 { widths.new ≡ widths_after (levels_of (line_limits_of limits) (state_of s widths.old) line.now) widths.old }
-    ensures tokens_after { tokens.new ≡ put_if place.write tokens.old (token_size * place.first) (token_words place.start (place.line + 1) (tokens_in (read_line (line_limits_of limits) (state_of s widths.old) line.now))) }
+    spaces: usize,
+    tokens: &mut S,
+    place: Place,
+    lead: Lead,
+    state: &mut State,
+) -> Result<usize, Failure>
+    requires line_bound { (place.start + length line.now ≤ 1_048_576) × ((place.line ≤ 4_194_304) × ((place.first ≤ 3_000_000) × (state.old.depth ≤ 4_194_304))) }
+    requires lead_bound { Within (Ok lead) × (spaces ≡ run is_space line.now) }
+    requires room { Room (S.fits tokens.old) place (tokens_of (whole_line lead line.now (cuts_from 0 0 line.now))) }
+    ensures value { (result, state.new) ≡ whole_of lead state.old (cuts_from 0 0 line.now) }
+    ensures taken { Taken (S.takes tokens.old tokens.new) place (tokens_of (whole_line lead line.now (cuts_from 0 0 line.now))) }
 {
-    let depth = s.depth;
+    let leading = cursor::put_leading(tokens, place, lead);
+    let inner = Place {
+        first: place.first + leading,
+        ..place
+    };
+    let end = cut_line(tables, line, spaces, tokens, inner, state.depth())?;
+    let count = leading + end.count;
+    let size = line.len() as u32;
+    records::put_token(tokens, place, count, kinds::NEWLINE, size, 0);
+    state.set_tokens(end.depth, end.arrow);
+    Ok(count + 1)
+}
+
+// One line from the state before it: the number of its tokens, and the state after it.
+pub fn read_line<S: Sink>(
+    tables: &Tables,
+    line: &[u8],
+    tokens: &mut S,
+    place: Place,
+    limits: LineLimits,
+    state: &mut State,
+) -> Result<usize, Halt>
+    requires line_bound { (place.start + length line.now ≤ 1_048_576) × ((place.line ≤ 4_194_304) × ((place.first ≤ 3_000_000) × (state.old.depth ≤ 4_194_304))) }
+    requires room { Room (S.fits tokens.old) place (tokens_in (read_line (line_limits_of limits) state.old line.now)) }
+    ensures value { counted_of result state.new ≡ counted (read_line (line_limits_of limits) state.old line.now) }
+    ensures widths_after { state.new.widths ≡ (with_widths (levels_of (line_limits_of limits) state.old line.now) state.old).widths }
+    ensures taken { Taken (S.takes tokens.old tokens.new) place (tokens_in (read_line (line_limits_of limits) state.old line.now)) }
+{
     let spaces = indent::leading_spaces(tables, line);
-    match levels::levels_of(limits, line, spaces, s, widths) {
-        levels::Compared::Levels(lead) => cut_after(
-            tables, line, spaces, tokens, place, depth, lead,
-        ),
-        levels::Compared::Unequal => LineRead::Fails(literals::Failure {
-            detail: 4,
+    match levels::levels_of(limits, line, spaces, state) {
+        Ok(lead) => Ok(cut_after(tables, line, spaces, tokens, place, lead, state)?),
+        Err(Misfit::Unequal) => Err(Halt::Fails(Failure {
+            detail: detail::BAD_INDENT,
             found: 0,
             at: 0,
             size: indent::leading_indent_bytes(line),
-        }),
-        levels::Compared::Beyond(refusal) => LineRead::OverLimit(refusal),
+        })),
+        Err(Misfit::Beyond(number)) => Err(Halt::OverLimit(number)),
     }
 }

@@ -6,26 +6,28 @@ ghost use Rattle.rules.specs.Lists.{run};
 ghost use Rattle.rules.specs.Failure.{detail_of, failure_record};
 ghost use Rattle.rules.specs.Line.{dedents, read_line};
 ghost use Rattle.rules.specs.Reading.{not_lf, line_at, size_at};
-ghost use Rattle.rules.specs.Limits.{max_levels};
 ghost use Rattle.rules.specs.Records.{line_size, token_size, line_record, token_words};
-ghost use Rattle.tables.specs.All.{all_tables};
 ghost use Rattle.literals.specs.Cuts.{failure_of};
-ghost use Rattle.records.specs.States.{state_of};
-ghost use Rattle.line.specs.LineCuts.{tokens_in, RoomIn};
-ghost use Rattle.laws.specs.Puts.{put_if};
+ghost use Rattle.line.specs.LineCuts.{tokens_in, Room, Taken};
 ghost use Rattle.refusals.specs.Limits.{line_limits_of};
 ghost use Rattle.refusals.specs.Unreads.{record_in};
 ghost use Rattle.lines.specs.Steps.{StepIs};
+
+use line::Halt;
+use literals::Failure;
+use records::{Place, Sink, State};
+use refusals::{FailureRecord, LineLimits, Unread};
+use tables::Tables;
 
 // Where the line from `at` on ends: at its LF or at the end of the text.
 pub fn line_end(text: &[u8], at: usize) -> usize
     requires { at ≤ length text.now }
     ensures { result ≡ at + run not_lf (drop at text.now) }
 {
-    search::find_byte(text, at, 10)
+    search::find_byte(text, at, b'\n')
 }
 
-// The codes of the details, by number; number 0 is as 1.
+// The codes of the details, by number, as the record has them; number 0 is as 1.
 const CODES: [u32; 13] = [1, 1, 2, 4, 101, 1, 1, 1, 1, 1, 1, 1, 1];
 
 // The code of a detail; 0 past the last one.
@@ -40,12 +42,12 @@ fn code_of(detail: u32) -> u32
 }
 
 // The record of a failure in the line at this place.
-pub fn failure_record(f: literals::Failure, place: records::Place) -> refusals::FailureRecord
+pub fn failure_record(f: Failure, place: Place) -> FailureRecord
     requires { (place.start + (f.at + f.size) ≤ 1_048_576) × (place.line ≤ 1_048_576) }
     ensures { result ≡ record_in (failure_record place.start (place.line + 1) (failure_of f)) }
 {
     let position = place.start + f.at as u32;
-    refusals::FailureRecord {
+    FailureRecord {
         code: code_of(f.detail),
         detail: f.detail,
         found: f.found,
@@ -67,60 +69,52 @@ pub fn past_lf(text: &[u8], end: usize) -> usize
     end
 }
 
-// What the next line gives: where the one after it starts, the number of its tokens, the state after it; or why it does not read.
+// What a line that reads gives: where the one after it starts, and the number of its tokens.
 #[derive(Clone, Copy)]
-pub enum Step {
-    Reads(usize, usize, records::State),
-    Refused(refusals::Unread),
+pub struct Next {
+    pub at: usize,
+    pub tokens: usize,
 }
 
-// The line at `at` of a text, with its place in the whole: where the pass writes, its record and its tokens.
-pub fn next_line(
-    tables: &[u8; tables::SIZE],
+// The line at `at` of a text, with its place in the whole: its record, its tokens, and the state after it.
+pub fn next_line<S: Sink>(
+    tables: &Tables,
     text: &[u8],
     at: usize,
-    lines: &mut [u32],
-    tokens: &mut [u32],
-    place: records::Place,
-    limits: refusals::LineLimits,
-    widths: &mut [u32],
-    s: records::State,
-) -> Step
-    requires tables_value { tables.now ≡ all_tables }
+    lines: &mut S,
+    tokens: &mut S,
+    place: Place,
+    limits: LineLimits,
+    state: &mut State,
+) -> Result<Next, Unread>
     requires at_in_bounds { (at < length text.now) × ((place.start + (length text.now - at) ≤ 1_048_576) × ((place.line ≤ 1_048_576) × (place.first ≤ 3_000_000))) }
-    requires depth_bound { (s.depth ≤ 4_194_304) × ((s.levels ≤ max_levels) × (length widths.old ≡ max_levels) × (limits.levels ≤ max_levels)) }
-    requires line_size_in_bounds { place.write ≡ true → (line_size * place.line + line_size ≤ length lines.old) × RoomIn (read_line (line_limits_of limits) (state_of s widths.old) (line_at text.now at)) place.first (length tokens.old) }
-    ensures step_is { StepIs widths.new place.start (place.line + 1) (at + size_at text.now at) (read_line (line_limits_of limits) (state_of s widths.old) (line_at text.now at)) result }
-    ensures lines_after { lines.new ≡ put_if place.write lines.old (line_size * place.line) (line_record place.start place.first (state_of s widths.old)) }
-    ensures tokens_after { tokens.new ≡ put_if place.write tokens.old (token_size * place.first) (token_words place.start (place.line + 1) (tokens_in (read_line (line_limits_of limits) (state_of s widths.old) (line_at text.now at)))) }
+    requires depth_bound { state.old.depth ≤ 4_194_304 }
+    requires line_room { S.fits lines.old (line_size * place.line + line_size) }
+    requires token_room { Room (S.fits tokens.old) place (tokens_in (read_line (line_limits_of limits) state.old (line_at text.now at))) }
+    ensures step_is { StepIs state.new place.start (place.line + 1) (at + size_at text.now at) (read_line (line_limits_of limits) state.old (line_at text.now at)) result }
+    ensures line_taken { S.takes lines.old lines.new (line_size * place.line) (line_record place.start place.first state.old) }
+    ensures tokens_taken { Taken (S.takes tokens.old tokens.new) place (tokens_in (read_line (line_limits_of limits) state.old (line_at text.now at))) }
 {
-    records::put_line(lines, place, s, widths);
+    records::put_line(lines, place, state);
     let end = line_end(text, at);
-    match line::read_line(tables, &text[at..end], tokens, place, limits, widths, s) {
-        line::LineRead::Reads(n, next) => Step::Reads(past_lf(text, end), n, next),
-        line::LineRead::Fails(f) => Step::Refused(refusals::Unread::Fails(failure_record(
-            f, place,
-        ))),
-        line::LineRead::OverLimit(refusal) => {
-            Step::Refused(refusals::Unread::AtLine(refusal, place.line + 1))
-        }
+    match line::read_line(tables, &text[at..end], tokens, place, limits, state) {
+        Ok(count) => Ok(Next {
+            at: past_lf(text, end),
+            tokens: count,
+        }),
+        Err(Halt::Fails(f)) => Err(Unread::Fails(failure_record(f, place))),
+        Err(Halt::OverLimit(number)) => Err(Unread::AtLine(number, place.line + 1)),
     }
 }
 
-// The end of a text at its place: where the pass writes, its record and its Dedents.
-pub fn put_end(
-    lines: &mut [u32],
-    tokens: &mut [u32],
-    place: records::Place,
-    s: records::State,
-    widths: &[u32],
-)
-    requires widths_len { (length widths.now ≡ max_levels) × (s.levels ≤ max_levels) }
-    requires start_bound { (place.start ≤ 1_048_576) × ((place.line ≤ 4_194_304) × (place.first ≤ 4_194_304)) }
-    requires line_size_in_bounds { place.write ≡ true → (line_size * place.line + line_size ≤ length lines.old) × (token_size * (place.first + s.levels) ≤ length tokens.old) }
-    ensures lines_after { lines.new ≡ put_if place.write lines.old (line_size * place.line) (line_record place.start place.first (state_of s widths.now)) }
-    ensures tokens_after { tokens.new ≡ put_if place.write tokens.old (token_size * place.first) (token_words place.start (place.line + 1) (dedents s.levels)) }
+// The end of a text, at this place: its record and its Dedents.
+pub fn put_end<S: Sink>(lines: &mut S, tokens: &mut S, end: Place, state: &State)
+    requires end_bound { (end.start ≤ 1_048_576) × ((end.line ≤ 4_194_304) × (end.first ≤ 4_194_304)) }
+    requires line_room { S.fits lines.old (line_size * end.line + line_size) }
+    requires token_room { S.fits tokens.old (token_size * (end.first + length state.now.widths)) }
+    ensures line_taken { S.takes lines.old lines.new (line_size * end.line) (line_record end.start end.first state.now) }
+    ensures tokens_taken { S.takes tokens.old tokens.new (token_size * end.first) (token_words end.start (end.line + 1) (dedents (length state.now.widths))) }
 {
-    records::put_line(lines, place, s, widths);
-    cursor::put_dedents(tokens, place, s.levels);
+    records::put_line(lines, end, state);
+    cursor::put_dedents(tokens, end, state.levels());
 }

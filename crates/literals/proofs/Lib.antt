@@ -1,3 +1,2 @@
-pub mod Among
 pub mod Steps
 pub mod Trimmed

@@ -3,28 +3,42 @@
 use Prim.Native.Nat.{ℕ, suc, ◌≤◌, ◌<◌}
 use mathlib.Core.Path.{◌≡◌, refl, sym, ◌∙◌}
 use mathlib.Core.Bool.{Bool, true, false, ◌&&◌, false≢true}
-use mathlib.Core.List.{List, ◌∷◌}
+use mathlib.Core.List.{List, [], ◌∷◌}
 use native.Mathlib.Omega.{arith}
-use lib.Dec.{leb}
+use lib.Dec.{leb, eqb}
 use lib.ListN.{length, get_or, drop, drop_of_length-le}
 use lib.Seq.{drop-cons}
-use borrow.Author.Tests.{eq-eqb, ne_eqb, le-leb, lt-leb, leb-true, lt-ltb, le-ltb}
+use borrow.Author.Tests.{eq-eqb, ne_eqb, eqb-true, eqb-false, le-leb, lt-leb, leb-true, lt-ltb, le-ltb}
 use Rattle.std.specs.Prelude.{if◌then◌else◌}
-use Rattle.rules.specs.Lists.{within, ascii, elem}
+use Rattle.std.specs.List.{list_any}
+use Rattle.rules.specs.Lists.{within, ascii, any, elem}
 use Rattle.rules.proofs.ListLaws.{and-true}
 use Rattle.rules.specs.Kinds.{byte_lit}
 use Rattle.rules.specs.Tables.{is_digit, is_hex_digit}
 use Rattle.rules.specs.Failure.{empty, escape_above, expected_hex_digit, unknown_escape, control_character, non_ascii, expected_quote}
 use Rattle.rules.specs.Cut.{token, failing, finding, line_ends, closing_cut, low_digit_cut, high_digit_cut, escape_cut, content_cut}
 
--- a hex digit is at most 7 exactly if it stands between 0 and 7
-digit_low : (b : ℕ) → is_hex_digit b ≡ true → b ≤ 55 → within 48 55 b ≡ true
-unfolding is_hex_digit is_digit
-digit_low b h k = go (leb 48 b) refl
+-- a byte outside a range
+not_within : (lo hi b : ℕ) → (lo ≤ b → b ≤ hi → ⊥) → within lo hi b ≡ false
+not_within lo hi b out = go (leb lo b) (leb b hi) refl refl
   where
-    go : (x : Bool) → leb 48 b ≡ x → (x && leb b 55) ≡ true
-    go true e = le-leb b 55 k
-    go false e = let z : is_hex_digit b ≡ false = rw (e, lt-leb 65 b (omega arith), lt-leb 97 b (omega arith)) in absurd (false≢true (sym z ∙ h))
+    go : (x y : Bool) → leb lo b ≡ x → leb b hi ≡ y → (x && y) ≡ false
+    go false y e f = refl
+    go true false e f = refl
+    go true true e f = absurd (out (leb-true lo b e) (leb-true b hi f))
+
+-- one of some bytes
+same-way : (a b : ℕ) → eqb a b ≡ eqb b a
+same-way a b = go (eqb a b) refl
+  where
+    go : (x : Bool) → eqb a b ≡ x → x ≡ eqb b a
+    go true e = sym (eq-eqb b a (sym (eqb-true a b e)))
+    go false e = sym (ne_eqb b a (λ q. eqb-false a b e (sym q)))
+
+pub among : (b : ℕ) (xs : List ℕ) → list_any (λ y. eqb y b) xs ≡ elem b xs
+unfolding elem any
+among b [] = refl
+among b (x ∷ xs) = rw (same-way x b, among b xs)
 
 low-digit-hex : (b : ℕ) → within 48 55 b ≡ true → is_hex_digit b ≡ true
 unfolding is_hex_digit is_digit
@@ -49,13 +63,13 @@ module _ (l : List ℕ) (i : ℕ) (h : i < length l) where
   unfolding low_digit_cut
   low-other e = rw (drop-cons l i 0 h, e)
 
-  pub high_digit : (j : ℕ) → j ≡ suc i → is_hex_digit (get_or l i 0) ≡ true → get_or l i 0 ≤ 55 → high_digit_cut (drop i l) ≡ low_digit_cut (drop j l)
+  pub high_digit : (j : ℕ) → j ≡ suc i → 48 ≤ get_or l i 0 → get_or l i 0 ≤ 55 → high_digit_cut (drop i l) ≡ low_digit_cut (drop j l)
   unfolding high_digit_cut
-  high_digit j n e k = rw (drop-cons l i 0 h, digit_low (get_or l i 0) e k, n)
+  high_digit j n e k = rw (drop-cons l i 0 h, le-leb 48 (get_or l i 0) e, le-leb (get_or l i 0) 55 k, n)
 
-  pub high-above : is_hex_digit (get_or l i 0) ≡ true → 55 < get_or l i 0 → high_digit_cut (drop i l) ≡ failing escape_above 4 (drop i l)
+  pub high-above : (48 ≤ get_or l i 0 → get_or l i 0 ≤ 55 → ⊥) → is_hex_digit (get_or l i 0) ≡ true → high_digit_cut (drop i l) ≡ failing escape_above 4 (drop i l)
   unfolding high_digit_cut
-  high-above e k = rw (drop-cons l i 0 h, le-leb 48 (get_or l i 0) (omega arith), lt-leb (get_or l i 0) 55 k, e)
+  high-above out e = rw (drop-cons l i 0 h, not_within 48 55 (get_or l i 0) out, e)
 
   pub high-other : is_hex_digit (get_or l i 0) ≡ false → high_digit_cut (drop i l) ≡ finding expected_hex_digit 4 (drop i l)
   unfolding high_digit_cut
@@ -89,27 +103,15 @@ module _ (l : List ℕ) (i : ℕ) (h : i < length l) where
     content-escape j n e = rw (drop-cons l i 0 h, ne_eqb (get_or l i 0) 39 q, eq-eqb (get_or l i 0) 92 e, n)
 
     module _ (r : get_or l i 0 ≡ 92 → ⊥) where
-      pub content_control : get_or l i 0 < 0x20 → content_cut (drop i l) ≡ finding control_character 2 (drop i l)
-      unfolding content_cut
-      content_control e =
-          rw (drop-cons l i 0 h, ne_eqb (get_or l i 0) 39 q, ne_eqb (get_or l i 0) 92 r, lt-leb 0x20 (get_or l i 0) e, lt-ltb (get_or l i 0) 0x80 (omega arith))
-
       pub content-printed : (j : ℕ) → j ≡ suc i → 0x20 ≤ get_or l i 0 → get_or l i 0 ≤ 0x7E → content_cut (drop i l) ≡ closing_cut 3 (drop j l)
       unfolding content_cut
       content-printed j n e f =
           rw (drop-cons l i 0 h, ne_eqb (get_or l i 0) 39 q, ne_eqb (get_or l i 0) 92 r, le-leb 0x20 (get_or l i 0) e, le-leb (get_or l i 0) 0x7E f, n)
 
-      pub content_delete : get_or l i 0 ≡ 0x7F → content_cut (drop i l) ≡ finding control_character 2 (drop i l)
+      pub content_control : (0x20 ≤ get_or l i 0 → get_or l i 0 ≤ 0x7E → ⊥) → get_or l i 0 < 0x80 → content_cut (drop i l) ≡ finding control_character 2 (drop i l)
       unfolding content_cut
-      content_delete e =
-          rw (
-            drop-cons l i 0 h,
-            ne_eqb (get_or l i 0) 39 q,
-            ne_eqb (get_or l i 0) 92 r,
-            le-leb 0x20 (get_or l i 0) (omega arith),
-            lt-leb (get_or l i 0) 0x7E (omega arith),
-            lt-ltb (get_or l i 0) 0x80 (omega arith),
-          )
+      content_control out e =
+          rw (drop-cons l i 0 h, ne_eqb (get_or l i 0) 39 q, ne_eqb (get_or l i 0) 92 r, not_within 0x20 0x7E (get_or l i 0) out, lt-ltb (get_or l i 0) 0x80 e)
 
       pub content_foreign : 0x80 ≤ get_or l i 0 → content_cut (drop i l) ≡ finding non_ascii 2 (drop i l)
       unfolding content_cut

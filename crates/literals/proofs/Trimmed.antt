@@ -1,13 +1,12 @@
 -- A byte literal that reads is cut alike from the whole line and from the line without its trailing CRs, since no step of it takes a CR.
 -- Assumes nothing.
-use Prim.Native.Nat.{ℕ, zero, suc, ◌≤◌}
+use Prim.Native.Nat.{ℕ}
 use mathlib.Core.Path.{◌≡◌, refl, sym, ap, ◌∙◌}
 use mathlib.Core.Bool.{Bool, true, false}
 use mathlib.Core.List.{List, [], ◌∷◌, ◌++◌}
 use native.Mathlib.Omega.{arith}
 use lib.Dec.{ltb, eqb}
 use lib.ListN.{length, take}
-use lib.Seq.{take-nil}
 use borrow.Author.Tests.{eqb-true}
 use Rattle.std.specs.Prelude.{if◌then◌else◌}
 use Rattle.rules.specs.Lists.{within, ascii, elem, trimmed, trim_end}
@@ -96,18 +95,3 @@ pub trim-front : (f : ℕ → Bool) (l : List ℕ) → trim_end f l ≡ take (le
 unfolding trim_end
 trim-front f [] = refl
 trim-front f (x ∷ l) = trimmed-front (f x) x l (trim_end f l) (trim-front f l)
-
--- a front that holds all but elements at the end which pass the test is trimmed to the same
-pub trim_take : (f : ℕ → Bool) (l : List ℕ) (n : ℕ) → length (trim_end f l) ≤ n → trim_end f (take n l) ≡ trim_end f l
-unfolding trim_end trimmed
-trim_take f [] n h = ap (trim_end f) (take-nil n)
-trim_take f (x ∷ l) zero h = none (trimmed (f x) x (trim_end f l)) h
-  where
-    none : (t : List ℕ) → length t ≤ 0 → [] ≡ t
-    none [] h = refl
-    none (y ∷ t) h = absurd (omega arith)
-trim_take f (x ∷ l) (suc n) h = ap (trimmed (f x) x) (trim_take f l n (rest (f x) (trim_end f l) h))
-  where
-    rest : (b : Bool) (t : List ℕ) → length (trimmed b x t) ≤ suc n → length t ≤ n
-    rest b [] h = omega arith
-    rest b (y ∷ t) h = omega arith

@@ -91,7 +91,8 @@ fn move_down<const SIZE: usize, const A: usize, const B: usize>(
     }
 }
 
-// `count` records brought up, the last batch first.
+// `count` records brought up, the last batch first. Up and down stay two: what holds between two batches is that of the records behind in the one,
+// and that of the records before in the other.
 fn move_up<const SIZE: usize, const A: usize, const B: usize>(
     ws: &mut [u32],
     from: usize,

@@ -7,25 +7,24 @@ ghost use Rattle.rules.specs.Numbers.{suffix_number};
 ghost use Rattle.numbers.specs.Numbers.{rule_suffix};
 ghost use Rattle.number_parts.specs.Answers.{parts_numbers};
 
+use numbers::{Number, Suffix};
+use refusals::Unread;
 use replies::{put, put_unread};
 
 // The number of a suffix.
 #[tactic(auto, unfolding(rules::specs::Numbers::suffix_number))]
-fn suffix_number(suffix: numbers::Suffix) -> u64
+fn suffix_number(suffix: Option<Suffix>) -> u64
     ensures { result ≡ suffix_number (rule_suffix suffix) }
 {
     match suffix {
-        numbers::Suffix::None => 0,
-        numbers::Suffix::Fx => 1,
-        numbers::Suffix::I32 => 2,
-        numbers::Suffix::U32 => 3,
-        numbers::Suffix::F64 => 4,
+        None => 0,
+        Some(suffix) => suffix as u64,
     }
 }
 
 // The answer of `number_parts`.
 #[tactic(auto, unfolding(rules::specs::Numbers::parts_words))]
-pub fn put_parts(reply: &mut [u64; 16], r: Result<Option<numbers::Number>, refusals::Unread>) -> u64
+pub fn put_parts(reply: &mut [u64; 16], r: Result<Option<Number>, Unread>) -> u64
     ensures value { result ≡ length (parts_numbers r) }
     ensures reply_after { reply.new ≡ sets reply.old 0 (parts_numbers r) }
 {

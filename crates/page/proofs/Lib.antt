@@ -1,1 +1,2 @@
 pub mod PageHistory
+mod Edits

@@ -1,27 +1,23 @@
 -- What the answer of a pass says of the text.
 -- Assumes nothing.
-use Prim.Native.Nat.{ℕ}
-use mathlib.Core.Path.{◌≡◌, sym, ap, ◌∙◌}
-use mathlib.Core.List.{List}
-use native.Mathlib.Omega.{arith}
-use Rattle.std.specs.Prelude.{Ok, Err}
+use Rattle.std.proofs.Common.{ℕ, ◌≡◌, List, Ok, Err, sym, ap, ◌∙◌, arith}
 use Rattle.rules.specs.Limits.{Limits}
 use Rattle.rules.specs.Reading.{Reading, reads, halts}
 use Rattle.rules.specs.Records.{records_of, FreshReading, recorded, unread, recorded_by, fresh_reading_by}
 use Rattle.refusals.specs.declared.Unread.{Unread}
 use Rattle.refusals.specs.Unreads.{unread_in, unread_of, test_of}
 use Rattle.refusals.proofs.Tests.{unread-back, unread_there, fresh_refused}
-use Rattle.passes.specs.declared.Counts.{Counts}
+use Rattle.records.specs.declared.Counts.{Counts}
 use Rattle.passes.specs.Passes.{pass_of, Counted}
 
-pub pass-counted : (x : Reading) (c : Counts) → Ok c ≡ pass_of (recorded_by x) → Counted c x
+pub pass_counted : (x : Reading) (c : Counts) → Ok c ≡ pass_of (recorded_by x) → Counted c x
 unfolding recorded_by records_of
-pass-counted (reads es z) c e = (cc, cc, cc)
-pass-counted (halts es h) c e = let b : ◌≡◌ {A = ℕ} 0 1 = cc in absurd (omega arith)
+pass_counted (reads es z) c e = (cc, cc, cc)
+pass_counted (halts es h) c e = let b : ◌≡◌ {A = ℕ} 0 1 = cc in absurd (omega arith)
 
-pub pass-refused : (f : FreshReading) (u : Unread) → Err u ≡ pass_of f → f ≡ unread (unread_of u)
-pass-refused (recorded r) u e = let b : ◌≡◌ {A = ℕ} 0 1 = cc in absurd (omega arith)
-pass-refused (unread x) u e =
+pub pass_refused : (f : FreshReading) (u : Unread) → Err u ≡ pass_of f → f ≡ unread (unread_of u)
+pass_refused (recorded r) u e = let b : ◌≡◌ {A = ℕ} 0 1 = cc in absurd (omega arith)
+pass_refused (unread x) u e =
     let q : u ≡ unread_in x = cc in
     ap unread (sym (ap unread_of q ∙ unread-back x))
 

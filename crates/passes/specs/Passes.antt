@@ -1,11 +1,11 @@
 -- What a pass over a text gives and writes.
 -- Assumes nothing.
-use Rattle.std.specs.Prelude.{ℕ, ◌≤◌, ◌≡◌, List, [], length, Result, Ok, Err}
+use Rattle.std.specs.Prelude.{ℕ, ◌≡◌, List, length, Result, Ok, Err}
 use Rattle.rules.specs.Reading.{Reading, reads, halts, byte_sum, token_sum}
 use Rattle.rules.specs.Records.{line_need, token_need, Header, with_end, records_of, FreshReading, recorded, unread}
+use Rattle.records.specs.declared.Counts.{Counts}
 use Rattle.refusals.specs.Unreads.{unread_in}
 use Rattle.refusals.specs.declared.Unread.{Unread}
-use Rattle.passes.specs.declared.Counts.{Counts}
 
 -- the numbers of a header
 abbrev pub counts_of : Header → Counts
@@ -16,18 +16,15 @@ abbrev pub pass_of : FreshReading → Result Counts Unread
 pass_of (recorded r) = Ok (counts_of r.head)
 pass_of (unread u) = Err (unread_in u)
 
-abbrev pub lines_in : Reading → List ℕ
-lines_in (reads es z) = (records_of es z).lines
-lines_in (halts es h) = []
+-- two sinks have room for its records; for any words, where it does not read
+abbrev pub RoomIn : (lines tokens : ℕ → Type 0) → Reading → Type 0
+RoomIn lines tokens (reads es z) = lines (line_need (length es)) × tokens (token_need (token_sum (with_end es z)))
+RoomIn lines tokens (halts es h) = ((n : ℕ) → lines n) × ((n : ℕ) → tokens n)
 
-abbrev pub tokens_in : Reading → List ℕ
-tokens_in (reads es z) = (records_of es z).tokens
-tokens_in (halts es h) = []
-
--- the text reads, and buffers of these lengths hold its records
-abbrev pub RoomIn : Reading → (lines tokens : ℕ) → Type 0
-RoomIn (reads es z) lines tokens = (line_need (length es) ≤ lines) × (token_need (token_sum (with_end es z)) ≤ tokens)
-RoomIn (halts es h) lines tokens = ⊥
+-- they take its records, where it reads
+abbrev pub TakenIn : (lines tokens : ℕ → List ℕ → Type 0) → Reading → Type 0
+TakenIn lines tokens (reads es z) = lines 0 (records_of es z).lines × tokens 0 (records_of es z).tokens
+TakenIn lines tokens (halts es h) = Unit {0}
 
 -- the text reads, with so many bytes, lines and tokens
 abbrev pub Counted : Counts → Reading → Type 0

@@ -1,3 +1,4 @@
 pub mod Starts
 pub mod Begins
 pub mod Plans
+pub mod Edits

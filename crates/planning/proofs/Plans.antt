@@ -1,20 +1,19 @@
 -- A plan on a faithful page is the one on paper.
 -- Assumes nothing.
-use Prim.Native.Nat.{ℕ, suc, ◌+◌, ◌*◌, ◌≤◌, ◌<◌}
+use Prim.Native.Nat.{ℕ, suc, ◌+◌, ◌-◌, ◌*◌, ◌≤◌, ◌<◌}
 use mathlib.Core.Path.{◌≡◌, refl, sym, ap, subst, ◌∙◌}
 use mathlib.Core.Bool.{Bool, true, false}
 use mathlib.Core.List.{List, [], ◌∷◌, ◌++◌, append_assoc, append-nil}
 use native.Mathlib.Omega.{arith}
 use native.Mathlib.Nat.{add-zero}
 use lib.Dec.{ltb}
-use lib.ListN.{length, get_or, take, drop, length-append, length-drop, length-take, drop_of_length-le, take-append-drop, length-replicate}
+use lib.ListN.{length, get_or, take, drop, length-append, length-drop, length-take, drop_of_length-le, take-append-drop}
 use lib.Seq.{take-take, take_all, take-append-le, length-take-le}
 use borrow.Author.Tests.{lt-ltb, le-ltb, ltb-true, ltb-false}
 use mathlib.Core.Logic.{inl, inr}
-use Rattle.std.specs.Prelude.{Option, Some, None, Ok, Err, if◌then◌else◌}
-use Rattle.rules.specs.Line.{State, initial, token_at, Halt, failed, over_limit}
-use Rattle.rules.specs.Reading as RulesReading
-use Rattle.rules.specs.Reading.{lines_of, count_lf, Entry, reads, halts, read_from, byte_sum, token_sum, state_at}
+use Rattle.std.specs.Prelude.{Option, Some, None, Result, Ok, Err, if◌then◌else◌}
+use Rattle.rules.specs.Line.{State, initial, Halt, failed, over_limit}
+use Rattle.rules.specs.Reading.{lines_of, count_lf, Entry, halts, read_from, byte_sum, token_sum, state_at}
 use Rattle.rules.specs.Limits.{max_levels, max_bytes, barge, barge_line}
 use Rattle.rules.specs.Replies as RulesReplies
 use Rattle.rules.specs.Replies.{reading, short, lines_buffer, tokens_buffer, refused_if, first_of, unless, is_too_long}
@@ -23,7 +22,7 @@ use Rattle.rules.specs.Page.{Page, fits, page_text, page_records, Faithful}
 use Rattle.rules.specs.StopRule.{Edit, edited, reread_count}
 use Rattle.rules.specs.Edit.{late, stored}
 use Rattle.rules.proofs.LineLaws.{total, drop_lines}
-use Rattle.rules.proofs.ReadingLaws.{parts, read-sizes, byte_sum_append, token_sum_append}
+use Rattle.rules.proofs.ReadingLaws.{parts, read-sizes, token_sum_append}
 use Rattle.rules.proofs.RecordLaws.{behind}
 use Rattle.rules.proofs.EditedLaws.{length_edited}
 use Rattle.rules.proofs.LimitLaws.{HaltNumbered, halt_numbered}
@@ -32,40 +31,30 @@ use Rattle.rules.proofs.LoopLaws.{ReadTo, with_end_lem}
 use Rattle.rules.proofs.BoundLaws.{fresh_small, read-grown}
 use Rattle.rules.proofs.PageLaws.{Fits, fits_true, page_length, fresh_inverse}
 use Rattle.rereading.specs.Rereads as rereads
-use Rattle.rereading.specs.Rereads.{Old, RereadIs}
-use Rattle.rereading.specs.declared.Reread.{Reread}
-use Rattle.rereading.specs.declared.Reread.TheVariants as reread
-use Rattle.rereading.specs.declared.Reread.TheVariants.{Stops, Ends}
+use Rattle.rereading.specs.Rereads.{Old}
+use Rattle.rereading.specs.declared.Reached.{Reached}
+use Rattle.rereading.specs.declared.Reached.TheVariants.{Stop, End}
 use Rattle.refusals.specs.Unreads.{unread_in, unread_of}
 use Rattle.refusals.specs.declared.Unread.{Unread}
 use Rattle.refusals.specs.declared.Buffer.TheVariants.{Lines, Tokens}
 use Rattle.refusals.specs.declared.Refusal.TheVariants.{Reading, Short, Unfit}
 use Rattle.refusals.proofs.Tests.{unread-back}
-use Rattle.records.specs.declared.State as LineState
+use Rattle.records.specs.declared.Counts.{Counts}
 use Rattle.records.proofs.Words.{state-words, state-from}
 use Rattle.rereading.proofs.Rereads.{halts-whole}
 use Rattle.rereading.proofs.OldLines.{start_is, first-is, state-is, levels-at}
 use Rattle.records.specs.Words.{line_word, state_from}
-use Rattle.plans.specs.Plans.{lines_after, tokens_after, roomed_on, stop_plan, stop_answer, end_plan, end_answer, new_lines, planned_lines, ReadsAs, Planned, Mends, LineRefusal, OnPaper, PlanIs}
+use Rattle.plans.specs.Plans.{end_lines, end_tokens, Small, lines_after, tokens_after, roomed, before_line, stop_plan, stop_answer, end_plan, end_answer, new_lines, planned_lines, Planned, Before, Mends, LineRefusal, OnPaper, PlanIs}
 use Rattle.plans.specs.declared.Plan.{Plan}
-use Rattle.planning.specs.Starts.{is_usable, begin_line}
+use Rattle.plans.proofs.NewLines.{sum-end, length_end, new_sizes}
+use Rattle.planning.specs.Starts.{is_usable, begin_line, RereadFrom}
 use Rattle.planning.proofs.Starts.{Usable, true_usable}
 use Rattle.planning.proofs.Begins.{Begun, begin_at}
 
 -- Lists with the end.
 
-sum-end : (es : List Entry) (z : State) → byte_sum (with_end es z) ≡ byte_sum es
-unfolding byte_sum
-sum-end es z = byte_sum_append es (end_entry z ∷ []) ∙ add-zero (byte_sum es)
-
-length_end : (es : List Entry) (z : State) → length (with_end es z) ≡ length es + 1
-length_end es z = length-append es (end_entry z ∷ [])
-
 take_sum : (i : ℕ) (es : List Entry) → token_sum (take i es) ≤ token_sum es
 take_sum i es = omega (arith, ap token_sum (take-append-drop i es), token_sum_append (take i es) (drop i es))
-
-end-levels : (y : State) → length (end_entry y).tokens ≡ length y.widths
-end-levels y = length-replicate (length y.widths) (token_at 91 0 0)
 
 pub short-text : (t : List ℕ) → is_too_long barge t ≡ false → length t ≤ max_bytes
 unfolding is_too_long
@@ -163,6 +152,15 @@ module _ {pg : Page} {ed : Edit} (ok : Editable pg ed) where
     state_of_lem x h =
         state-from lines x (state_at es end x) (omega (arith, ok.fits.lines)) (levels-at barge_line t es end bh.reads-are (omega arith) x) (state-is lines m es end m-is lines_are x h)
 
+    -- what stands before a line is as its record tells
+    take-before : (x : ℕ) → x ≤ length es → take x (with_end es end) ≡ take x es
+    take-before x h = take-append-le x es (end_entry end ∷ []) h
+
+    before-is : (x : ℕ) → x ≤ m → Before (with_end es end) (before_line lines x)
+    before-is x h =
+        let e = sym (take-before x (omega (arith, h, m-is))) in
+        (start_of x h ∙ ap byte_sum e, first_of_lem x h ∙ ap token_sum e)
+
     -- a reading of the first x lines
     read_at : (x : ℕ) → ReadTo barge_line initial t (byte_sum (take x es)) (take x es) (state_at es end x)
     read_at x =
@@ -246,32 +244,31 @@ module _ {pg : Page} {ed : Edit} (ok : Editable pg ed) where
 
   -- A plan, with room or without.
   module _ (p : Plan) (pl : Planned u lines m k p) (mends : (bh : Behind barge_line t (page_records pg)) → Mends t lines bh.entries bh.end ed p) where
-    sizes_of : (x : RulesReading.Reading) → planned_lines u lines p ≡ x → ReadsAs p x → (p.lines ≡ length (new_lines p.ends x)) × (p.tokens ≡ token_sum (new_lines p.ends x))
-    sizes_of (reads es z) e r = (r.3, r.4)
-    sizes_of (halts es h) e r = absurd r
-
     module _ (bh : Behind barge_line t (page_records pg)) where
       abbrev new : List Entry
-      new = new_lines p.ends (planned_lines u lines p)
+      new = new_lines p.end (planned_lines u lines p)
 
       abbrev old : List Entry
       old = with_end bh.entries bh.end
+
+      sizes : (byte_sum new ≡ p.read.bytes) × (length new ≡ p.read.lines + end_lines p.end) × (token_sum new ≡ p.read.tokens + end_tokens p.end)
+      sizes = new_sizes p (planned_lines u lines p) pl.reads_as
 
       lines-sum : lines_after p m ≡ length (mends bh).entries + 1
       lines-sum =
           let x = mends bh in
           omega (
             arith,
-            (sizes_of (planned_lines u lines p) refl pl.reads_as).0,
+            sizes.1,
             sym (length_end x.entries x.last) ∙ ap length x.mended,
-            length-append (take p.i old) (new ++ drop p.j old),
-            length-append new (drop p.j old),
-            length-take p.i old,
-            length-drop p.j old,
+            length-append (take p.begin.lines old) (new ++ drop p.kept.lines old),
+            length-append new (drop p.kept.lines old),
+            length-take p.begin.lines old,
+            length-drop p.kept.lines old,
             length_end bh.entries bh.end,
             m-is bh,
-            pl.i-le,
-            pl.j-le,
+            pl.begin-lines,
+            pl.kept-lines,
           )
 
       tokens-sum : tokens_after p k ≡ token_sum (with_end (mends bh).entries (mends bh).last)
@@ -279,15 +276,15 @@ module _ {pg : Page} {ed : Edit} (ok : Editable pg ed) where
           let x = mends bh in
           omega (
             arith,
-            (sizes_of (planned_lines u lines p) refl pl.reads_as).1,
+            sizes.2,
             ap token_sum x.mended,
-            token_sum_append (take p.i old) (new ++ drop p.j old),
-            token_sum_append new (drop p.j old),
-            ap token_sum (take-append-drop p.j old),
-            token_sum_append (take p.j old) (drop p.j old),
+            token_sum_append (take p.begin.lines old) (new ++ drop p.kept.lines old),
+            token_sum_append new (drop p.kept.lines old),
+            ap token_sum (take-append-drop p.kept.lines old),
+            token_sum_append (take p.kept.lines old) (drop p.kept.lines old),
             k-is bh,
-            x.first-is,
-            x.from_is,
+            x.begin-is.1,
+            x.kept-is.1,
           )
 
       records-are : read_lines barge_line u ≡ recorded (records_of (mends bh).entries (mends bh).last)
@@ -320,7 +317,7 @@ module _ {pg : Page} {ed : Edit} (ok : Editable pg ed) where
         let bh = faithful_behind fa in
         rw (records-are bh, lines_need bh, tokens_need bh, le-ltb (length lines) (line_size * lines_after p m) l, lt-ltb (length tokens) (token_size * tokens_after p k) h) refl
 
-    pub roomed-is : PlanIs pg ed (roomed_on pg p)
+    pub roomed-is : PlanIs pg ed (roomed pg p)
     roomed-is = go (ltb 2_097_152 (tokens_after p k)) refl (ltb (length lines) (line_size * lines_after p m)) refl (ltb (length tokens) (token_size * tokens_after p k)) refl
       where
         go : (b1 : Bool) → ltb 2_097_152 (tokens_after p k) ≡ b1 → (b2 : Bool) → ltb (length lines) (line_size * lines_after p m) ≡ b2 → (b3 : Bool) → ltb (length tokens) (token_size * tokens_after p k) ≡ b3
@@ -345,6 +342,9 @@ module _ {pg : Page} {ed : Edit} (ok : Editable pg ed) where
     abbrev base : ℕ
     base = line_word lines i 0
 
+    abbrev before : Counts
+    before = before_line lines i
+
     us : Usable lines i k a
     us = bg.usable
 
@@ -357,160 +357,152 @@ module _ {pg : Page} {ed : Edit} (ok : Editable pg ed) where
     abbrev z : State
     z = state_from lines i
 
-    -- what reading again gives, on paper
-    abbrev pub Gives : Reread → Type 0
-    Gives = RereadIs barge_line (drop base u) lines base i m i b (a + length w) z
+    -- what reading again gives
+    abbrev pub Gives : (left : State) → Result Reached Unread → Type 0
+    Gives = RereadFrom pg u ed i z
 
     -- how much was read again
-    lines-small : (c x q : ℕ) (l : rereads.Lines barge_line (drop base u) z c x q) → (c ≤ q) × (x ≤ max_levels + 2 * q) × (x + length l.after.widths ≤ max_levels + 2 * q)
-    lines-small c x q l =
+    lines-small : {c : Counts} (l : rereads.Lines barge_line (drop base u) z c) → (c.lines ≤ c.bytes) × (c.tokens + length l.after.widths ≤ max_levels + 2 * c.bytes)
+    lines-small {c} l =
         let rest : List ℕ = drop base u in
-        let s = read-sizes barge_line z (take c (lines_of rest)) l.es l.after l.reads-are in
-        let e : total (take c (lines_of rest)) ≡ q = sym s.1 ∙ l.bytes in
-        let to : ReadTo barge_line z rest q l.es l.after = record {
-          lines = take c (lines_of rest);
-          split = sym (take-append-drop c (lines_of rest)) ∙ ap (λ (y : List (List ℕ)). take c (lines_of rest) ++ y) (drop_lines c rest ∙ ap (λ (i : ℕ). lines_of (drop i rest)) e);
+        let s = read-sizes barge_line z (take c.lines (lines_of rest)) l.es l.after l.reads-are in
+        let e : total (take c.lines (lines_of rest)) ≡ c.bytes = sym s.1 ∙ l.counted.bytes in
+        let to : ReadTo barge_line z rest c.bytes l.es l.after = record {
+          lines = take c.lines (lines_of rest);
+          split = sym (take-append-drop c.lines (lines_of rest)) ∙ ap (λ (y : List (List ℕ)). take c.lines (lines_of rest) ++ y) (drop_lines c.lines rest ∙ ap (λ (i : ℕ). lines_of (drop i rest)) e);
           reads-are = l.reads-are;
-          bytes = l.bytes;
+          bytes = l.counted.bytes;
         } in
-        let g = read-grown barge_line z rest q l.es l.after to in
-        let v : length z.widths ≤ max_levels = omega (arith, length-take (line_word lines i 4) (take width_words (drop (line_size * i + 5) lines)), us.levels) in
-        (omega (arith, g.lines, l.count), omega (arith, g.tokens, l.tokens), omega (arith, g.tokens, l.tokens))
+        let g = read-grown barge_line z rest c.bytes l.es l.after to in
+        let n4 : line_size * i + 4 ≡ line_size * i + 2 + 2 = omega arith in
+        let v : length z.widths ≤ max_levels =
+        omega (arith, length-take (get_or lines (line_size * i + 2 + 2) 0) (take width_words (drop (line_size * i + 2 + 3) lines)), ap (λ (y : ℕ). get_or lines y 0) n4, us.levels) in
+        (omega (arith, g.lines, l.counted.lines), omega (arith, g.tokens, l.counted.tokens))
+
+    -- at the end all lines are read
+    abbrev all-lines : {c : Counts} {left : State} → Gives left (Ok (End c)) → rereads.Lines barge_line (drop base u) z c
+    all-lines {c} {left} r =
+        let ls : List (List ℕ) = lines_of (drop base u) in
+        let n : length ls ≡ c.lines = sym (read-sizes barge_line z ls r.0 left r.2).0 ∙ r.1.lines in
+        record { es = r.0; after = left; reads-are = ap (read_from barge_line z) (take_all c.lines ls (omega (arith, n))) ∙ r.2; counted = r.1 }
 
     -- as the plans need it
     rest-small : base + length (drop base u) ≤ 1_048_576
     rest-small = omega (arith, length-drop base u, inside-u, ok.small)
 
-    pub stop-small : {c x q j : ℕ} → Gives (Stops c x q j) → (j ≤ m) × (c ≤ 1_048_576) × (x ≤ 2_500_000) × (base + q ≤ 1_048_576)
-    stop-small {c} {x} {q} r =
-        let v = lines-small c x q r.0 in
-        (r.1.1.0, omega (arith, v.0, r.1.0, rest-small), omega (arith, v.1, r.1.0, rest-small), omega (arith, r.1.0, rest-small))
+    pub stop-small : (left : State) {c : Counts} {j : ℕ} → Gives left (Ok (Stop c j)) → (j ≤ m) × Small (stop_plan lines before c j)
+    stop-small left r =
+        let v = lines-small r.0 in
+        (r.1.1.0, (omega (arith, r.1.0, rest-small), omega (arith, v.0, r.1.0, rest-small, bg.within, bg.m-le), omega (arith, v.1, r.1.0, rest-small, us.first, bg.k-le)))
 
-    pub end-small : {c x : ℕ} (s : LineState.State) → Gives (Ends c x s) → (c ≤ 1_048_576) × (x + s.levels ≤ 2_500_000)
-    end-small {c} {x} s r =
-        let v = lines-small c x (length (drop base u)) r.0 in
-        (omega (arith, v.0, rest-small), omega (arith, v.2, r.1.1, rest-small))
+    pub end-small : {c : Counts} {levels : ℕ} {left : State} → Gives left (Ok (End c)) → levels ≡ length left.widths → Small (end_plan pg.head before c levels)
+    end-small r e =
+        let v = lines-small (all-lines r) in
+        (omega (arith, r.3, rest-small), omega (arith, v.0, r.3, rest-small, bg.within, bg.m-le), omega (arith, v.1, r.3, rest-small, us.first, bg.k-le, e))
 
-    stop_planned : (c x q j : ℕ) (l : rereads.Lines barge_line (drop base u) z c x q) → q < length (drop base u) → j ≤ m → line_word lines j 1 ≤ k → line_word lines j 0 ≤ 4_294_967_295
-        → Planned u lines m k (stop_plan lines i base c x q j)
-    stop_planned c x q j l hq hj hk ho =
-        let v = lines-small c x q l in
+    -- the old line at a stop starts within the text
+    stop-start : (left : State) {c : Counts} {j : ℕ} → Gives left (Ok (Stop c j)) → line_word lines j 0 ≤ n
+    stop-start left {c} {j} r =
+        let e : line_word lines j 0 ≡ b + (base + c.bytes - (a + length w)) = ap (λ (y : ℕ). get_or lines y 0) (add-zero (line_size * j)) ∙ r.1.1.1.1 in
+        omega (arith, e, r.1.0, r.1.1.1.0, length-drop base u, length_edited t ed (omega (arith, long, ok.order, ok.inside)), long, ok.inside)
+
+    stop_planned : (c : Counts) (j : ℕ) (l : rereads.Lines barge_line (drop base u) z c) → c.bytes < length (drop base u) → j ≤ m → line_word lines j 1 ≤ k → line_word lines j 0 ≤ 4_294_967_295
+        → Planned u lines m k (stop_plan lines before c j)
+    stop_planned c j l hq hj hk ho =
+        let n = l.counted in
         record {
           m-le = bg.m-le;
           k-le = bg.k-le;
-          i-le = bg.within;
-          number = us.number;
-          base-le = inside-u;
+          begin-lines = bg.within;
+          begin-bytes = us.number;
+          read-bytes = omega (arith, hq, length-drop base u, inside-u);
           depth = us.depth;
           levels = us.levels;
-          reads_as = subst (ReadsAs (stop_plan lines i base c x q j)) (sym l.reads-are) (l.count, l.tokens, ap (λ (y : ℕ). base + y) l.bytes, sym l.count, sym l.tokens);
-          first-le = us.first;
-          from_le = hk;
-          j-le = omega (arith, hj);
-          old-le = ho;
-          lines-le = omega (arith, v.0, length-drop base u, ok.small);
+          reads_as = record { entries = l.es; last = l.after; reads-are = l.reads-are; bytes = n.bytes; lines = n.lines; tokens = n.tokens; levels = λ levels e. cc };
+          begin-tokens = us.first;
+          kept-tokens = hk;
+          kept-lines = omega (arith, hj);
+          kept-bytes = ho;
+          read-lines = omega (arith, (lines-small l).0, length-drop base u, ok.small);
           some = omega (arith, hj);
         }
 
-    stop-mends : (c x q j : ℕ) (r : Gives (Stops c x q j)) (bh : Behind barge_line t (page_records pg))
-        → Mends t lines bh.entries bh.end ed (stop_plan lines i base c x q j)
+    stop-mends : (c : Counts) (j : ℕ) (left : State) (r : Gives left (Ok (Stop c j))) (bh : Behind barge_line t (page_records pg)) → Mends t lines bh.entries bh.end ed (stop_plan lines before c j)
     unfolding old_of
-    stop-mends c x q j r bh =
-        let o = old_of bh i at-is in
-        let v = r.2 o in
+    stop-mends c j left r bh =
+        let v = r.2 (old_of bh i at-is) in
         let es : List Entry = bh.entries in
-        let end : State = bh.end in
         let hj : j ≤ length es = omega (arith, v.3) in
-        let ti : take i (with_end es end) ≡ take i es = take-append-le i es (end_entry end ∷ []) (omega (arith, bg.within, m-is bh)) in
-        let tj : take j (with_end es end) ≡ take j es = take-append-le j es (end_entry end ∷ []) hj in
-        let nl : new_lines false (planned_lines u lines (stop_plan lines i base c x q j)) ≡ r.0.es = ap (new_lines false) r.0.reads-are in
+        let nl : new_lines None (planned_lines u lines (stop_plan lines before c j)) ≡ r.0.es = ap (new_lines None) r.0.reads-are in
         record {
           entries = take i es ++ (r.0.es ++ drop j es);
-          last = end;
+          last = bh.end;
           reads-are = v.0;
-          mended = with_end_lem es r.0.es end i j hj ∙ (λ y. sym ti y ++ (sym nl y ++ drop j (with_end es end)));
+          mended = with_end_lem es r.0.es bh.end i j hj ∙ (λ y. sym (take-before bh i (omega (arith, bg.within, m-is bh))) y ++ (sym nl y ++ drop j (with_end es bh.end)));
           count = v.1;
-          first-is = first_of_lem bh i bg.within ∙ ap token_sum (sym ti);
-          from_is = first_of_lem bh j (omega (arith, hj, m-is bh)) ∙ ap token_sum (sym tj);
-          base-is = start_of bh i bg.within ∙ ap byte_sum (sym ti);
-          old-is = start_of bh j (omega (arith, hj, m-is bh)) ∙ ap byte_sum (sym tj);
-          new_is = ap (λ (y : ℕ). base + y) (sym r.0.bytes ∙ ap byte_sum (sym nl));
+          begin-is = before-is bh i bg.within;
+          kept-is = before-is bh j (omega (arith, hj, m-is bh));
         }
 
-    pub stop_plan_lem : {c x q j : ℕ} → Gives (Stops c x q j) → line_word lines j 0 ≤ 4_294_967_295
-        → PlanIs pg ed (stop_answer pg i base c x q j)
-    stop_plan_lem {c} {x} {q} {j} r ho = go (ltb k (line_word lines j 1)) refl
+    pub stop_plan_lem : (left : State) {c : Counts} {j : ℕ} → Gives left (Ok (Stop c j)) → n ≤ 4_294_967_295 → PlanIs pg ed (stop_answer pg before c j)
+    stop_plan_lem left {c} {j} r hn = go (ltb k (line_word lines j 1)) refl
       where
-        go : (y : Bool) → ltb k (line_word lines j 1) ≡ y → PlanIs pg ed (if y then Err Unfit else roomed_on pg (stop_plan lines i base c x q j))
+        go : (y : Bool) → ltb k (line_word lines j 1) ≡ y → PlanIs pg ed (if y then Err Unfit else roomed pg (stop_plan lines before c j))
         go true e = (
           tt,
           λ spare fa.
               let bh = faithful_behind fa in
               absurd (omega (arith, ltb-true k (line_word lines j 1) e, first_of_lem bh j r.1.1.0, k-is bh, take_sum j bh.entries, token_sum_append bh.entries (end_entry bh.end ∷ []))),
         )
-        go false e =
-            roomed-is (stop_plan lines i base c x q j) (stop_planned c x q j r.0 r.1.0 r.1.1.0 (ltb-false k (line_word lines j 1) e) ho) (stop-mends c x q j r)
+        go false e = roomed-is (stop_plan lines before c j) (stop_planned c j r.0 r.1.0 r.1.1.0 (ltb-false k (line_word lines j 1) e) (omega (arith, stop-start left r, hn))) (stop-mends c j left r)
 
-    end_planned : (c x g : ℕ) (l : rereads.Lines barge_line (drop base u) z c x (length (drop base u))) → length l.after.widths ≡ g → n ≤ 4_294_967_295
-        → Planned u lines m k (end_plan pg i base (length u) c x g)
-    unfolding token_sum
-    end_planned c x g l hg hn =
-        let v = lines-small c x (length (drop base u)) l in
-        let e : length (with_end l.es l.after) ≡ c + 1 = length_end l.es l.after ∙ omega (arith, l.count) in
-        let s : token_sum (with_end l.es l.after) ≡ x + g =
-        token_sum_append l.es (end_entry l.after ∷ []) ∙ omega (arith, l.tokens, end-levels l.after, hg) in
+    end_planned : (c : Counts) (levels : ℕ) (l : rereads.Lines barge_line (drop base u) z c) → c.bytes ≡ length (drop base u) → levels ≡ length l.after.widths → n ≤ 4_294_967_295
+        → Planned u lines m k (end_plan pg.head before c levels)
+    end_planned c levels l hq hg hn =
+        let n = l.counted in
         record {
           m-le = bg.m-le;
           k-le = bg.k-le;
-          i-le = bg.within;
-          number = us.number;
-          base-le = inside-u;
+          begin-lines = bg.within;
+          begin-bytes = us.number;
+          read-bytes = omega (arith, hq, length-drop base u, inside-u);
           depth = us.depth;
           levels = us.levels;
-          reads_as = subst (ReadsAs (end_plan pg i base (length u) c x g)) (sym l.reads-are) (l.count, l.tokens, omega (arith, l.bytes, length-drop base u, inside-u), sym e, sym s);
-          first-le = us.first;
-          from_le = omega arith;
-          j-le = omega arith;
-          old-le = hn;
-          lines-le = omega (arith, v.0, length-drop base u, ok.small);
+          reads_as = record { entries = l.es; last = l.after; reads-are = l.reads-are; bytes = n.bytes; lines = n.lines; tokens = n.tokens; levels = λ some e. cc };
+          begin-tokens = us.first;
+          kept-tokens = omega arith;
+          kept-lines = omega arith;
+          kept-bytes = hn;
+          read-lines = omega (arith, (lines-small l).0, hq, length-drop base u, ok.small);
           some = omega arith;
         }
 
-    end-mends : (c x : ℕ) (s : LineState.State) (r : Gives (Ends c x s)) (bh : Behind barge_line t (page_records pg))
-        → Mends t lines bh.entries bh.end ed (end_plan pg i base (length u) c x s.levels)
+    end-mends : (c : Counts) (levels : ℕ) {left : State} (r : Gives left (Ok (End c))) (bh : Behind barge_line t (page_records pg))
+        → Mends t lines bh.entries bh.end ed (end_plan pg.head before c levels)
     unfolding old_of
-    end-mends c x s r bh =
-        let o = old_of bh i at-is in
-        let v = r.2 o in
+    end-mends c levels {left} r bh =
+        let v = r.4 (old_of bh i at-is) in
         let es : List Entry = bh.entries in
         let end : State = bh.end in
-        let ti : take i (with_end es end) ≡ take i es = take-append-le i es (end_entry end ∷ []) (omega (arith, bg.within, m-is bh)) in
         let le : length (with_end es end) ≤ m + 1 = omega (arith, length_end es end, m-is bh) in
         let tj : take (m + 1) (with_end es end) ≡ with_end es end = take_all (m + 1) (with_end es end) le in
         let dj : drop (m + 1) (with_end es end) ≡ [] = drop_of_length-le (with_end es end) {i = m + 1} le in
-        let nl : new_lines true (planned_lines u lines (end_plan pg i base (length u) c x s.levels)) ≡ with_end r.0.es r.0.after = ap (new_lines true) r.0.reads-are in
+        let nl : new_lines (Some levels) (planned_lines u lines (end_plan pg.head before c levels)) ≡ with_end r.0 left = ap (new_lines (Some levels)) (all-lines r).reads-are in
         record {
-          entries = take i es ++ r.0.es;
-          last = r.0.after;
+          entries = take i es ++ r.0;
+          last = left;
           reads-are = v.0;
-          mended = append_assoc (take i es) r.0.es (end_entry r.0.after ∷ []) ∙ ap (λ (y : List Entry). take i es ++ y) (sym (append-nil (with_end r.0.es r.0.after)))
-              ∙ (λ y. sym ti y ++ (sym nl y ++ sym dj y));
+          mended = append_assoc (take i es) r.0 (end_entry left ∷ []) ∙ ap (λ (y : List Entry). take i es ++ y) (sym (append-nil (with_end r.0 left)))
+              ∙ (λ y. sym (take-before bh i (omega (arith, bg.within, m-is bh))) y ++ (sym nl y ++ sym dj y));
           count = v.1;
-          first-is = first_of_lem bh i bg.within ∙ ap token_sum (sym ti);
-          from_is = k-is bh ∙ ap token_sum (sym tj);
-          base-is = start_of bh i bg.within ∙ ap byte_sum (sym ti);
-          old-is = n-is bh ∙ sym (sum-end es end) ∙ ap byte_sum (sym tj);
-          new_is = omega (arith, length-drop base u, inside-u, r.0.bytes, sum-end r.0.es r.0.after, ap byte_sum nl);
+          begin-is = before-is bh i bg.within;
+          kept-is = (n-is bh ∙ sym (sum-end es end) ∙ ap byte_sum (sym tj), k-is bh ∙ ap token_sum (sym tj));
         }
 
-    pub end_plan_lem : {c x : ℕ} (s : LineState.State) → Gives (Ends c x s) → n ≤ 4_294_967_295
-        → PlanIs pg ed (end_answer pg i base (length u) c x s.levels)
-    end_plan_lem {c} {x} s r hn =
-        roomed-is (end_plan pg i base (length u) c x s.levels) (end_planned c x s.levels r.0 r.1.1 hn) (end-mends c x s r)
-
-    -- the same, as the code has the rest of the text and the state
-    pub gives : {rest : List ℕ} {y : State} {r q : Reread} → rest ≡ drop base u → y ≡ z → r ≡ q → RereadIs barge_line rest lines base i m i b (a + length w) y r → Gives q
-    gives er ey e h = rw (er, ey, e) at h
+    pub end_plan_lem : {c : Counts} {levels : ℕ} {left : State} → Gives left (Ok (End c)) → levels ≡ length left.widths → n ≤ 4_294_967_295
+        → PlanIs pg ed (end_answer pg before c levels)
+    end_plan_lem {c} {levels} r hg hn =
+        roomed-is (end_plan pg.head before c levels) (end_planned c levels (all-lines r) r.3 hg hn) (end-mends c levels r)
 
     halted : (h : Halt) (es : List Entry) → read_from barge_line initial (lines_of u) ≡ halts es h → read_lines barge_line u ≡ unread (halt_refusal (byte_sum es) (suc (length es)) h)
     unfolding read_lines recorded_by
@@ -521,9 +513,9 @@ module _ {pg : Page} {ed : Edit} (ok : Editable pg ed) where
     halt_refusal_lem p l (failed f) k = tt
     halt_refusal_lem p l (over_limit number) k = k
 
-    pub halt_plan : {x : Unread} → Gives (reread.Refused x) → PlanIs pg ed (Err (Reading x))
+    pub halt_plan : (left : State) {x : Unread} → Gives left (Err x) → PlanIs pg ed (Err (Reading x))
     unfolding old_of stored
-    halt_plan {x} h =
+    halt_plan left {x} h =
         let g = h.0 in (
           subst LineRefusal (sym g.3) (halt_refusal_lem _ _ g.1 (halt_numbered barge_line z (lines_of (drop base u)) g.0 g.1 g.2)),
           λ spare fa.

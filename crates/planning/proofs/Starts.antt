@@ -8,8 +8,8 @@ use native.Mathlib.Omega.{arith}
 use native.Mathlib.Nat.{zero-add}
 use native.Mathlib.Numerals.{add-one}
 use lib.Dec.{leb, eqb}
-use lib.ListN.{length, get_or, take, drop, take-append-drop}
-use lib.Seq.{take-suc, take-append-add, length-take-le}
+use lib.ListN.{length, get_or, take}
+use lib.Seq.{take-suc}
 use mir.Val.{bool_byte}
 use borrow.Author.Tests.{le-leb, leb-true}
 use Rattle.std.specs.Prelude.{if◌then◌else◌}
@@ -20,7 +20,7 @@ use Rattle.rules.proofs.ListLaws.{and-true}
 use Rattle.records.specs.Words.{line_word}
 use Rattle.planning.specs.Starts.{is_usable}
 
-count_append : (xs ys : List ℕ) → count_lf (xs ++ ys) ≡ count_lf xs + count_lf ys
+pub count_append : (xs ys : List ℕ) → count_lf (xs ++ ys) ≡ count_lf xs + count_lf ys
 unfolding count_lf
 count_append [] ys = sym (zero-add (count_lf ys))
 count_append (x ∷ xs) ys = go (eqb x 10) (count_append xs ys)
@@ -28,12 +28,6 @@ count_append (x ∷ xs) ys = go (eqb x 10) (count_append xs ys)
     go : (y : Bool) → count_lf (xs ++ ys) ≡ count_lf xs + count_lf ys → (if y then suc (count_lf (xs ++ ys)) else count_lf (xs ++ ys)) ≡ (if y then suc (count_lf xs) else count_lf xs) + count_lf ys
     go true e = omega arith
     go false e = e
-
--- of the first x bytes and of n more
-pub count-part : (t : List ℕ) (x n : ℕ) → x ≤ length t → count_lf (take (x + n) t) ≡ count_lf (take x t) + count_lf (take n (drop x t))
-count-part t x n h =
-    let whole : take (x + n) t ≡ take x t ++ take n (drop x t) = (λ i. take (sym (length-take-le x t h) i + n) (sym (take-append-drop x t) i)) ∙ take-append-add (take x t) (drop x t) n in
-    ap count_lf whole ∙ count_append (take x t) (take n (drop x t))
 
 count-one : (b : ℕ) → count_lf (b ∷ []) ≡ bit (eqb b 10)
 unfolding count_lf

@@ -1,10 +1,15 @@
--- Where reading again begins: the line, and its record by its words.
+-- Where reading again begins: the line, and its record by its words. What reading again gives.
 -- Assumes nothing.
-use Rattle.std.specs.Prelude.{ℕ, Bool, ◌&&◌, List, leb, ltb, take, Option, Some, None, if◌then◌else◌}
+use Rattle.std.specs.Prelude.{ℕ, Bool, ◌&&◌, List, leb, ltb, take, drop, Option, Some, None, Result, if◌then◌else◌}
+use Rattle.rules.specs.Line.{State}
 use Rattle.rules.specs.Reading.{count_lf}
-use Rattle.rules.specs.Limits.{max_levels}
+use Rattle.rules.specs.Limits.{max_levels, barge_line}
 use Rattle.rules.specs.Page.{Page}
+use Rattle.rules.specs.StopRule.{Edit, kept_from}
 use Rattle.records.specs.Words.{line_word}
+use Rattle.refusals.specs.declared.Unread.{Unread}
+use Rattle.rereading.specs.declared.Reached.{Reached}
+use Rattle.rereading.specs.Rereads.{RereadIs}
 
 -- reading can begin at record i, for an edit from byte a on of a page with k tokens
 abbrev pub is_usable : List ℕ → (i k a : ℕ) → Bool
@@ -22,3 +27,9 @@ begin_line pg a =
     else if ltb pg.head.m i then None
     else if is_usable pg.lines i pg.head.k a then Some i
     else None
+
+-- The edited text u, read again under the barge's limits from line i of a page on, from the state z, up to the stop rule of the edit.
+abbrev pub RereadFrom : Page → (u : List ℕ) → Edit → (i : ℕ) → (z left : State) → Result Reached Unread → Type 0
+RereadFrom pg u ed i z =
+    let base = line_word pg.lines i 0 in
+    RereadIs barge_line (drop base u) pg.lines base i pg.head.m i ed.b (kept_from ed) z

@@ -1,56 +1,45 @@
 // What an edit will write, found without writing: where reading again begins, where it stops, and what is kept.
 #![tactic(auto)]
 
-ghost use Rattle.std.specs.Prelude.{◌≡◌, true, ◌+◌, ◌-◌, ◌*◌, ◌≤◌, ◌<◌, length, take, drop};
-ghost use Rattle.rules.specs.Limits.{max_levels, barge_line};
+ghost use Rattle.std.specs.Prelude.{◌≡◌, true, ◌+◌, ◌-◌, ◌*◌, ◌≤◌, ◌<◌, length, take};
+ghost use Rattle.rules.specs.Limits.{max_levels};
 ghost use Rattle.rules.specs.Reading.{count_lf};
 ghost use Rattle.rules.specs.Page.{fits};
 ghost use Rattle.rules.specs.Records.{line_size};
 ghost use Rattle.header.specs.Pages.{lent_page};
-ghost use Rattle.rereading.specs.Rereads.{RereadIs};
-ghost use Rattle.records.specs.Words.{line_word, state_from};
+ghost use Rattle.records.specs.Words.{line_word};
 ghost use Rattle.plans.specs.Plans.{lent_edit, edited_text, PlanIs};
-ghost use Rattle.planning.specs.Starts.{is_usable, begin_line};
+ghost use Rattle.planning.specs.Starts.{is_usable, begin_line, RereadFrom};
 
 use header::Page;
 use plans::{Edit, Plan};
-use refusals::Refusal;
-use rereading::Reread;
+use records::{Nowhere, Place, State};
+use refusals::{Refusal, Unread};
+use rereading::{Reached, StopRule};
+use tables::Tables;
 
 // The LFs of a part; a count in one byte is compiled to sums of vectors.
+#[tactic(auto, unfolding(rules::specs::Reading::count_lf))]
 fn count_part(part: &[u8]) -> u8
     requires { length part.now ≤ 255 }
     ensures { result ≡ count_lf part.now }
 {
     let mut n: u8 = 0;
-    for b in part {
-        n += (*b == 10) as u8;
+    for i in 0..part.len() {
+        n += (part[i] == b'\n') as u8;
     }
     n
 }
 
-// Where the part that begins at x ends.
-fn part_end(x: usize, a: usize) -> usize
-    requires { x < a }
-    ensures { (x < result) × ((result ≤ a) × (result ≤ x + 128)) }
-{
-    if a - x < 128 {
-        return a;
-    }
-    x + 128
-}
-
 // The LFs of the first a bytes, part by part.
+#[tactic(auto, unfolding(rules::specs::Reading::count_lf))]
 pub fn count_lf(text: &[u8], a: usize) -> usize
     requires { a ≤ length text.now }
     ensures { result ≡ count_lf (take a text.now) }
 {
     let mut n: usize = 0;
-    let mut x: usize = 0;
-    while x < a {
-        let end = part_end(x, a);
-        n += count_part(&text[x..end]) as usize;
-        x = end;
+    for part in text[..a].chunks(128) {
+        n += count_part(part) as usize;
     }
     n
 }
@@ -62,7 +51,7 @@ pub fn usable(lines: &[u32], i: usize, k: usize, a: usize) -> bool
     ensures { result ≡ is_usable lines.now i k a }
 {
     let at = records::LINE * i;
-    let start = lines[at + 0] as usize;
+    let start = lines[at] as usize;
     if a < start {
         return false;
     }
@@ -102,44 +91,45 @@ fn begin_line(page: Page, a: usize) -> Option<usize>
     None
 }
 
-// The lines of the edited text from old line i on, read again up to the stop rule, under the barge's limits.
-fn reread_from(lines: &[u32], edited: &[u8], i: usize, m: usize, b: usize, kept: usize) -> Reread
-    requires i_bound { (i ≤ 1_048_576) × ((i ≤ m) × ((m ≤ 4_294_967_295) × (line_size * (m + 1) ≤ length lines.now))) }
-    requires i_bound_2 { (i ≤ line_word lines.now i 0) × ((line_word lines.now i 2 ≤ line_word lines.now i 0) × (line_word lines.now i 4 ≤ max_levels)) }
-    requires i_in_bounds { (line_word lines.now i 0 ≤ length edited.now) × ((length edited.now ≤ 1_048_576) × (b ≤ 4_294_967_295)) }
-    ensures { RereadIs barge_line (drop (line_word lines.now i 0) edited.now) lines.now (line_word lines.now i 0) i m i b kept (state_from lines.now i) result }
+// The lines of the edited text from old line i on, read again from its state up to the stop rule, under the barge's limits.
+fn reread_from(
+    page: Page,
+    edited: &[u8],
+    edit: Edit,
+    i: usize,
+    state: &mut State,
+) -> Result<Reached, Unread>
+    requires within { (i ≤ page.head.m) × (line_size * (page.head.m + 1) ≤ length page.lines.now) }
+    requires start_bound { (i ≤ line_word page.lines.now i 0) × ((line_word page.lines.now i 0 ≤ length edited.now) × (length edited.now ≤ 1_048_576)) }
+    requires edit_bound { (edit.a ≤ edit.b) × (edit.b ≤ page.head.n) }
+    requires state_bound { (state.old.depth ≤ line_word page.lines.now i 0) × (length state.old.widths ≤ max_levels) }
+    ensures { RereadFrom (lent_page page.entry) edited.now (lent_edit edit.entry) i state.old state.new result }
 {
-    let tables = tables::tables();
-    let limits = refusals::barge_limits();
-    let mut widths: [u32; records::LEVELS] = [0; records::LEVELS];
-    let s = records::load_state(lines, i, &mut widths);
-    let start = lines[records::LINE * i + 0];
-    let base = start as usize;
-    let place = records::Place {
-        write: false,
+    let start = page.lines[records::LINE * i];
+    let place = Place {
         line: i,
         first: 0,
-        start: start,
+        start,
     };
-    let stop = rereading::StopRule {
-        count: m,
+    let stop = StopRule {
+        count: page.head.m as usize,
         from: i,
-        end: b,
-        kept: kept,
+        end: edit.b,
+        kept: edit.a + edit.w.len(),
     };
-    let mut none: [u32; 1] = [0];
-    let mut nothing: [u32; 1] = [0];
+    let tables = Tables::new();
+    let limits = refusals::barge_limits().line();
+    let rest = &edited[start as usize..];
     rereading::read_on(
         &tables,
-        &edited[base..],
-        lines,
+        rest,
+        page.lines,
         stop,
-        &mut none,
-        &mut nothing,
+        &mut Nowhere,
+        &mut Nowhere,
         place,
-        limits.line(),
-        &mut widths,
-        s,
+        limits,
+        state,
     )
 }
 
@@ -153,12 +143,10 @@ pub fn plan_edit(page: Page, edited: &[u8], edit: Edit) -> Result<Plan, Refusal>
     let Some(i) = begin_line(page, edit.a) else {
         return Err(Refusal::Unfit);
     };
-    let lines = page.lines;
-    let base = lines[records::LINE * i + 0] as usize;
-    let kept = edit.a + edit.w.len();
-    match reread_from(lines, edited, i, page.head.m as usize, edit.b, kept) {
-        Reread::Stops(c, t, q, j) => plans::plan_stop(page, i, base, c, t, q, j),
-        Reread::Ends(c, t, s) => plans::plan_end(page, i, base, edited.len(), c, t, s.levels),
-        Reread::Refused(u) => Err(Refusal::Reading(u)),
+    let begin = plans::before_line(page.lines, i);
+    let mut state = records::load_state(page.lines, i);
+    match reread_from(page, edited, edit, i, &mut state)? {
+        Reached::Stop(read, j) => plans::plan_stop(page, begin, read, j),
+        Reached::End(read) => plans::plan_end(page, begin, read, state.levels()),
     }
 }

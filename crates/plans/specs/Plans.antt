@@ -1,12 +1,13 @@
 -- What an edit writes: the lines read again, and the tail that is kept.
 -- Assumes nothing.
-use Rattle.std.specs.Prelude.{ℕ, ◌+◌, ◌-◌, ◌*◌, ◌≤◌, ◌≡◌, Bool, true, false, List, [], ◌++◌, ◌⊎◌, ltb, length, take, drop, Result, Ok, Err, if◌then◌else◌}
+use Rattle.std.specs.Prelude.{ℕ, ◌+◌, ◌-◌, ◌*◌, ◌≤◌, ◌≡◌, List, [], ◌++◌, ◌⊎◌, ltb, length, take, drop, Option, Some, None, is_some, unwrap_or, Result, Ok, Err, if◌then◌else◌}
+use Rattle.rules.specs.Lists.{bit}
 use Rattle.rules.specs.Line.{State, initial}
 use Rattle.rules.specs.Reading as RulesReading
 use Rattle.rules.specs.Reading.{lines_of, Entry, reads, halts, read_from, byte_sum, token_sum}
 use Rattle.rules.specs.Limits.{max_levels, barge_line, LimitNumber}
 use Rattle.rules.specs.Replies as RulesReplies
-use Rattle.rules.specs.Records.{line_size, token_size, with_end, read_lines, Behind}
+use Rattle.rules.specs.Records.{line_size, token_size, Header, with_end, read_lines, Behind}
 use Rattle.rules.specs.Page as RulesPage
 use Rattle.rules.specs.Page.{page_text, page_records, Faithful}
 use Rattle.rules.specs.StopRule as RulesEdit
@@ -19,125 +20,126 @@ use Rattle.refusals.specs.declared.Buffer.TheVariants.{Lines, Tokens}
 use Rattle.refusals.specs.declared.Refusal.{Refusal}
 use Rattle.refusals.specs.declared.Refusal.TheVariants.{Reading, Short, Outside, Unfit}
 use Rattle.records.specs.Words.{line_word, state_from}
+use Rattle.records.specs.declared.Counts.{Counts}
 use Rattle.plans.specs.declared.Plan.{Plan}
 use Rattle.plans.specs.declared.Edit.{Edit}
+
+-- Where a plan writes.
+
+-- what stands before the end, where it is written anew
+abbrev pub before_end : Plan → Counts
+before_end p = record { bytes = p.begin.bytes + p.read.bytes; lines = p.begin.lines + p.read.lines; tokens = p.begin.tokens + p.read.tokens }
+
+-- then it has so many line records and so many token records
+abbrev pub end_lines : Option ℕ → ℕ
+end_lines end = bit (is_some end)
+
+abbrev pub end_tokens : Option ℕ → ℕ
+end_tokens end = unwrap_or end 0
+
+-- what stands before the kept tail afterwards
+abbrev pub moved_to : Plan → Counts
+moved_to p = let at = before_end p in record { bytes = at.bytes; lines = at.lines + end_lines p.end; tokens = at.tokens + end_tokens p.end }
+
+-- in numbers far within a word
+abbrev pub Small : Plan → Type 0
+Small p = let to = moved_to p in (to.bytes ≤ 18_446_744_073_709_551_615) × (to.lines ≤ 4_294_967_295) × (to.tokens ≤ 4_294_967_295)
 
 -- The numbers of records afterwards.
 
 -- line records, the end's included
 abbrev pub lines_after : Plan → (m : ℕ) → ℕ
-lines_after p m = p.i + p.lines + (m + 1 - p.j)
+lines_after p m = (moved_to p).lines + (m + 1 - p.kept.lines)
 
 abbrev pub tokens_after : Plan → (k : ℕ) → ℕ
-tokens_after p k = p.first + p.tokens + (k - p.from)
+tokens_after p k = (moved_to p).tokens + (k - p.kept.tokens)
 
--- a plan for a page of m lines and k tokens, with buffers of these lengths: 7 where no text has so many tokens, 5 (lines), 5 (tokens)
-abbrev pub roomed : Plan → (m k lines tokens : ℕ) → Result Plan Refusal
-roomed p m k lines tokens =
-    if ltb 2_097_152 (tokens_after p k) then Err Unfit
-    else if ltb lines (line_size * lines_after p m) then Err (Short Lines (line_size * lines_after p m))
-    else if ltb tokens (token_size * tokens_after p k) then Err (Short Tokens (token_size * tokens_after p k))
+-- a plan on a page: 7 where no text has so many tokens, 5 (lines), 5 (tokens)
+abbrev pub roomed : RulesPage.Page → Plan → Result Plan Refusal
+roomed pg p =
+    if ltb 2_097_152 (tokens_after p pg.head.k) then Err Unfit
+    else if ltb (length pg.lines) (line_size * lines_after p pg.head.m) then Err (Short Lines (line_size * lines_after p pg.head.m))
+    else if ltb (length pg.tokens) (token_size * tokens_after p pg.head.k) then Err (Short Tokens (token_size * tokens_after p pg.head.k))
     else Ok p
 
--- on a page
-abbrev pub roomed_on : RulesPage.Page → Plan → Result Plan Refusal
-roomed_on pg p = roomed p pg.head.m pg.head.k (length pg.lines) (length pg.tokens)
+-- what stands before line i of a page, by its record
+abbrev pub before_line : (lines : List ℕ) (i : ℕ) → Counts
+before_line lines i = record { bytes = line_word lines i 0; lines = i; tokens = line_word lines i 1 }
 
--- The plan at a stop after c lines, t tokens and q bytes, at the old line j.
-abbrev pub stop_plan : (lines : List ℕ) (i base c t q j : ℕ) → Plan
-stop_plan lines i base c t q j =
-    record {
-      i = i;
-      j = j;
-      base = base;
-      first = line_word lines i 1;
-      from = line_word lines j 1;
-      count = c;
-      read = t;
-      lines = c;
-      tokens = t;
-      old = line_word lines j 0;
-      new = base + q;
-      ends = false;
-    }
+-- The plan at a stop after what was read, at the old line j.
+abbrev pub stop_plan : (lines : List ℕ) (begin read : Counts) (j : ℕ) → Plan
+stop_plan lines begin read j = record { begin = begin; read = read; end = None; kept = before_line lines j }
 
-abbrev pub stop_answer : RulesPage.Page → (i base c t q j : ℕ) → Result Plan Refusal
-stop_answer pg i base c t q j =
-    if ltb pg.head.k (line_word pg.lines j 1) then Err Unfit else roomed_on pg (stop_plan pg.lines i base c t q j)
+abbrev pub stop_answer : RulesPage.Page → (begin read : Counts) (j : ℕ) → Result Plan Refusal
+stop_answer pg begin read j = if ltb pg.head.k (line_word pg.lines j 1) then Err Unfit else roomed pg (stop_plan pg.lines begin read j)
 
--- The plan at the end of a text of `size` bytes, after c lines and t tokens, with so many levels open.
-abbrev pub end_plan : RulesPage.Page → (i base size c t levels : ℕ) → Plan
-end_plan pg i base size c t levels =
-    record {
-      i = i;
-      j = pg.head.m + 1;
-      base = base;
-      first = line_word pg.lines i 1;
-      from = pg.head.k;
-      count = c;
-      read = t;
-      lines = c + 1;
-      tokens = t + levels;
-      old = pg.head.n;
-      new = size;
-      ends = true;
-    }
+-- The plan at the end of a text after what was read, with so many levels open: nothing is kept.
+abbrev pub end_plan : Header → (begin read : Counts) (levels : ℕ) → Plan
+end_plan h begin read levels = record { begin = begin; read = read; end = Some levels; kept = record { bytes = h.n; lines = h.m + 1; tokens = h.k } }
 
-abbrev pub end_answer : RulesPage.Page → (i base size c t levels : ℕ) → Result Plan Refusal
-end_answer pg i base size c t levels = roomed_on pg (end_plan pg i base size c t levels)
+abbrev pub end_answer : RulesPage.Page → (begin read : Counts) (levels : ℕ) → Result Plan Refusal
+end_answer pg begin read levels = roomed pg (end_plan pg.head begin read levels)
 
 -- What is written.
 
--- the lines that were read again; at the end, the end as one more
-abbrev pub new_lines : (ends : Bool) → RulesReading.Reading → List Entry
-new_lines ends (reads es z) = if ends then with_end es z else es
-new_lines ends (halts es h) = []
+-- the lines that were read again; where the end is written anew, the end as one more
+abbrev pub new_lines : (end : Option ℕ) → RulesReading.Reading → List Entry
+new_lines end (reads es z) = if is_some end then with_end es z else es
+new_lines end (halts es h) = []
 
--- the lines of the edited text u that a plan reads again
+-- the lines of the edited text u that a plan reads again, from the state z
+abbrev pub reread : (u : List ℕ) → (z : State) → Plan → RulesReading.Reading
+reread u z p = read_from barge_line z (take p.read.lines (lines_of (drop p.begin.bytes u)))
+
+-- from the state in the page's line words
 abbrev pub planned_lines : (u lines : List ℕ) → Plan → RulesReading.Reading
-planned_lines u lines p = read_from barge_line (state_from lines p.i) (take p.count (lines_of (drop p.base u)))
+planned_lines u lines p = reread u (state_from lines p.begin.lines) p
 
--- they read, in so many tokens and up to this byte
-abbrev pub ReadsAs : Plan → RulesReading.Reading → Type 0
-ReadsAs p (reads es z) =
-    (length es ≡ p.count) × (token_sum es ≡ p.read) × (p.base + byte_sum es ≡ p.new)
-    × (p.lines ≡ length (new_lines p.ends (reads es z))) × (p.tokens ≡ token_sum (new_lines p.ends (reads es z)))
-ReadsAs p (halts es h) = ⊥
+-- they read, and have so many bytes, lines and tokens; where the end is written anew, so many levels are open there
+pub record ReadsAs (p : Plan) (x : RulesReading.Reading) : Type 0 where
+  pub entries : List Entry
+  pub last : State
+  pub reads-are : x ≡ reads entries last
+  pub bytes : byte_sum entries ≡ p.read.bytes
+  pub lines : length entries ≡ p.read.lines
+  pub tokens : token_sum entries ≡ p.read.tokens
+  pub levels : (levels : ℕ) → p.end ≡ Some levels → levels ≡ length last.widths
 
 -- a plan for any page of m lines and k tokens whose line words are these: it stays within the page and its buffers
 pub record Planned (u lines : List ℕ) (m k : ℕ) (p : Plan) : Type 0 where
   pub m-le : m ≤ 1_048_576
   pub k-le : k ≤ 2_097_152
-  pub i-le : p.i ≤ m
-  pub number : p.i ≤ p.base
-  pub base-le : p.base ≤ length u
-  pub depth : line_word lines p.i 2 ≤ p.base
-  pub levels : line_word lines p.i 4 ≤ max_levels
+  pub begin-lines : p.begin.lines ≤ m
+  pub begin-bytes : p.begin.lines ≤ p.begin.bytes
+  pub read-bytes : p.begin.bytes + p.read.bytes ≤ length u
+  pub depth : line_word lines p.begin.lines 2 ≤ p.begin.bytes
+  pub levels : line_word lines p.begin.lines 4 ≤ max_levels
   pub reads_as : ReadsAs p (planned_lines u lines p)
-  pub first-le : p.first ≤ k
-  pub from_le : p.from ≤ k
-  pub j-le : p.j ≤ m + 1
-  pub old-le : p.old ≤ 4_294_967_295
-  pub lines-le : p.lines ≤ 1_048_577
-  pub some : 1 ≤ p.lines + (m + 1 - p.j)
+  pub begin-tokens : p.begin.tokens ≤ k
+  pub kept-tokens : p.kept.tokens ≤ k
+  pub kept-lines : p.kept.lines ≤ m + 1
+  pub kept-bytes : p.kept.bytes ≤ 4_294_967_295
+  pub read-lines : p.read.lines + end_lines p.end ≤ 1_048_577
+  pub some : 1 ≤ p.read.lines + end_lines p.end + (m + 1 - p.kept.lines)
 
 pub record Roomy (m k lines tokens : ℕ) (p : Plan) : Type 0 where
   pub line-room : line_size * lines_after p m ≤ lines
   pub token-room : token_size * tokens_after p k ≤ tokens
   pub few : tokens_after p k ≤ 2_097_152
 
--- on a faithful page: the edited text reads, and its lines are the old ones with those from i to j replaced
+-- what stands before so many of these lines
+abbrev pub Before : List Entry → Counts → Type 0
+Before es c = (c.bytes ≡ byte_sum (take c.lines es)) × (c.tokens ≡ token_sum (take c.lines es))
+
+-- on a faithful page: the edited text reads, and its lines are the old ones with those from `begin` to `kept` replaced
 pub record Mends (t lines : List ℕ) (old : List Entry) (end : State) (ed : RulesEdit.Edit) (p : Plan) : Type 0 where
   pub entries : List Entry
   pub last : State
   pub reads-are : read_from barge_line initial (lines_of (edited t ed)) ≡ reads entries last
-  pub mended : with_end entries last ≡ take p.i (with_end old end) ++ (new_lines p.ends (planned_lines (edited t ed) lines p) ++ drop p.j (with_end old end))
-  pub count : reread_count barge_line t ed ≡ p.count
-  pub first-is : p.first ≡ token_sum (take p.i (with_end old end))
-  pub from_is : p.from ≡ token_sum (take p.j (with_end old end))
-  pub base-is : p.base ≡ byte_sum (take p.i (with_end old end))
-  pub old-is : p.old ≡ byte_sum (take p.j (with_end old end))
-  pub new_is : p.new ≡ p.base + byte_sum (new_lines p.ends (planned_lines (edited t ed) lines p))
+  pub mended : with_end entries last ≡ take p.begin.lines (with_end old end) ++ (new_lines p.end (planned_lines (edited t ed) lines p) ++ drop p.kept.lines (with_end old end))
+  pub count : reread_count barge_line t ed ≡ p.read.lines
+  pub begin-is : Before (with_end old end) p.begin
+  pub kept-is : Before (with_end old end) p.kept
 
 -- The answer.
 

@@ -3,11 +3,11 @@
 
 ghost use Rattle.std.specs.Prelude.{◌≡◌, ◌+◌, ◌*◌, ◌≤◌, length};
 ghost use Rattle.rules.specs.Records.{line_size};
-ghost use Rattle.records.specs.Words.{line_word};
-ghost use Rattle.header.specs.Pages.{lent_page};
-ghost use Rattle.plans.specs.Plans.{roomed, stop_answer, end_answer};
+ghost use Rattle.header.specs.Pages.{header_of, lent_page};
+ghost use Rattle.plans.specs.Plans.{moved_to, Small, before_line, roomed, stop_plan, stop_answer, end_plan, end_answer};
 
 use header::Page;
+use records::Counts;
 use refusals::{Buffer, Refusal};
 
 // Bytes a to b of a text are to become w.
@@ -18,114 +18,99 @@ pub struct Edit<'a> {
     pub w: &'a [u8],
 }
 
-// Where an accepted edit writes: line records from i on, where `base` is the start of line i, become `lines` records, for `count`
-// lines that are read again in `read` tokens and perhaps the end; token records from `first` on become `tokens` records. Old line
-// records from j on and old token records from `from` on are kept: their bytes began at `old` and then begin at `new`.
+// Where an accepted edit writes. `begin` is what stands before the lines that are read again, and `read` is what these have; where the end's record
+// is written anew, `end` is how many levels are open there; `kept` is what stood on the page before the tail that is kept.
 #[derive(Clone, Copy)]
 pub struct Plan {
-    pub i: usize,
-    pub j: usize,
-    pub base: usize,
-    pub first: usize,
-    pub from: usize,
-    pub count: usize,
-    pub read: usize,
-    pub lines: usize,
-    pub tokens: usize,
-    pub old: usize,
-    pub new: usize,
-    pub ends: bool,
+    pub begin: Counts,
+    pub read: Counts,
+    pub end: Option<usize>,
+    pub kept: Counts,
 }
 
-// A plan with room for its records.
-#[tactic(auto, using(std::proofs::lemmas::Bool::Decides::nat_tests))]
-fn plan_room(p: Plan, m: usize, k: usize, lines: usize, tokens: usize) -> Result<Plan, Refusal>
-    requires i_bound { (p.i ≤ 1_048_576) × ((p.lines ≤ 1_048_577) × ((m ≤ 1_048_576) × (p.j ≤ m + 1))) }
-    requires first_le_k { (p.first ≤ k) × ((p.tokens ≤ 3_000_000) × ((k ≤ 2_097_152) × (p.from ≤ k))) }
-    ensures { result ≡ roomed p m k lines tokens }
+impl Plan {
+    // What stands before the kept tail afterwards.
+    pub fn moved(self) -> Counts
+        requires { Small self }
+        ensures { result ≡ moved_to self }
+    {
+        Counts {
+            bytes: self.begin.bytes + self.read.bytes,
+            lines: self.begin.lines + self.read.lines + self.end.is_some() as usize,
+            tokens: self.begin.tokens + self.read.tokens + self.end.unwrap_or(0),
+        }
+    }
+}
+
+// What stands before line i of a page, by its record.
+pub fn before_line(lines: &[u32], i: usize) -> Counts
+    requires { (i ≤ 1_048_576) × (line_size * (i + 1) ≤ length lines.now) }
+    ensures { result ≡ before_line lines.now i }
 {
-    let line_records = p.i + p.lines + (m + 1 - p.j);
-    let token_records = p.first + p.tokens + (k - p.from);
+    let at = records::LINE * i;
+    Counts {
+        bytes: lines[at] as usize,
+        lines: i,
+        tokens: lines[at + 1] as usize,
+    }
+}
+
+// A plan with room for its records on a page.
+#[tactic(auto, using(std::proofs::lemmas::Bool::Decides::nat_tests))]
+fn plan_room(p: Plan, page: Page) -> Result<Plan, Refusal>
+    requires small { Small p }
+    requires kept { (page.head.m ≤ 1_048_576) × ((p.kept.lines ≤ page.head.m + 1) × (p.kept.tokens ≤ page.head.k)) }
+    ensures { result ≡ roomed (lent_page page.entry) p }
+{
+    let to = p.moved();
+    let line_records = to.lines + (page.head.m as usize + 1 - p.kept.lines);
+    let token_records = to.tokens + (page.head.k as usize - p.kept.tokens);
     if 2_097_152 < token_records {
         return Err(Refusal::Unfit);
     }
-    if lines < records::LINE * line_records {
+    if page.lines.len() < records::LINE * line_records {
         return Err(Refusal::Short(Buffer::Lines, records::LINE * line_records));
     }
-    if tokens < records::TOKEN * token_records {
+    if page.tokens.len() < records::TOKEN * token_records {
         return Err(Refusal::Short(Buffer::Tokens, records::TOKEN * token_records));
     }
     Ok(p)
 }
 
-// The plan at a stop, on a page, from its line i on, which starts at `base`: after c lines, t tokens and q bytes, at the old line j. Refused where
-// the old record cannot be a faithful page's.
-pub fn plan_stop(
-    page: Page,
-    i: usize,
-    base: usize,
-    c: usize,
-    t: usize,
-    q: usize,
-    j: usize,
-) -> Result<Plan, Refusal>
-    requires i_le_m { (i ≤ page.head.m) × ((j ≤ page.head.m) × ((page.head.m ≤ 1_048_576) × (line_size * (page.head.m + 1) ≤ length page.lines.now))) }
-    requires i_bound { (line_word page.lines.now i 1 ≤ page.head.k) × ((page.head.k ≤ 2_097_152) × ((c ≤ 1_048_576) × ((t ≤ 2_500_000) × (base + q ≤ 1_048_576)))) }
-    ensures { result ≡ stop_answer (lent_page page.entry) i base c t q j }
+// The plan at a stop, on a page: after what was read, at the old line j. Refused where the old record cannot be a faithful page's.
+#[tactic(auto, using(std::proofs::lemmas::Bool::Decides::nat_tests))]
+pub fn plan_stop(page: Page, begin: Counts, read: Counts, j: usize) -> Result<Plan, Refusal>
+    requires within { (j ≤ page.head.m) × ((page.head.m ≤ 1_048_576) × (line_size * (page.head.m + 1) ≤ length page.lines.now)) }
+    requires small { Small (stop_plan page.lines.now begin read j) }
+    ensures { result ≡ stop_answer (lent_page page.entry) begin read j }
 {
-    let lines = page.lines;
-    let m = page.head.m as usize;
-    let k = page.head.k as usize;
-    let from = lines[records::LINE * j + 1] as usize;
-    if k < from {
+    let p = Plan {
+        begin,
+        read,
+        end: None,
+        kept: before_line(page.lines, j),
+    };
+    if (page.head.k as usize) < p.kept.tokens {
         return Err(Refusal::Unfit);
     }
-    let p = Plan {
-        i,
-        j,
-        base,
-        first: lines[records::LINE * i + 1] as usize,
-        from,
-        count: c,
-        read: t,
-        lines: c,
-        tokens: t,
-        old: lines[records::LINE * j + 0] as usize,
-        new: base + q,
-        ends: false,
-    };
-    plan_room(p, m, k, lines.len(), page.tokens.len())
+    plan_room(p, page)
 }
 
-// The plan at the end of an edited text of `size` bytes: after c lines and t tokens, with so many levels open.
-pub fn plan_end(
-    page: Page,
-    i: usize,
-    base: usize,
-    size: usize,
-    c: usize,
-    t: usize,
-    levels: usize,
-) -> Result<Plan, Refusal>
-    requires i_le_m { (i ≤ page.head.m) × ((page.head.m ≤ 1_048_576) × (line_size * (page.head.m + 1) ≤ length page.lines.now)) }
-    requires i_bound { (line_word page.lines.now i 1 ≤ page.head.k) × ((page.head.k ≤ 2_097_152) × ((c ≤ 1_048_576) × (t + levels ≤ 2_500_000))) }
-    ensures { result ≡ end_answer (lent_page page.entry) i base size c t levels }
+// The plan at the end of an edited text, on a page: after what was read, with so many levels open.
+pub fn plan_end(page: Page, begin: Counts, read: Counts, levels: usize) -> Result<Plan, Refusal>
+    requires within { page.head.m ≤ 1_048_576 }
+    requires small { Small (end_plan (header_of page.head) begin read levels) }
+    ensures { result ≡ end_answer (lent_page page.entry) begin read levels }
 {
-    let m = page.head.m as usize;
-    let k = page.head.k as usize;
     let p = Plan {
-        i,
-        j: m + 1,
-        base,
-        first: page.lines[records::LINE * i + 1] as usize,
-        from: k,
-        count: c,
-        read: t,
-        lines: c + 1,
-        tokens: t + levels,
-        old: page.head.n as usize,
-        new: size,
-        ends: true,
+        begin,
+        read,
+        end: Some(levels),
+        kept: Counts {
+            bytes: page.head.n as usize,
+            lines: page.head.m as usize + 1,
+            tokens: page.head.k as usize,
+        },
     };
-    plan_room(p, m, k, page.lines.len(), page.tokens.len())
+    plan_room(p, page)
 }

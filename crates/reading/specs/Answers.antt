@@ -4,7 +4,7 @@ use Rattle.std.specs.Prelude.{[], ◌∷◌, Result}
 use Rattle.rules.specs.Replies.{Reply}
 use Rattle.refusals.specs.Replies.{reply_of}
 use Rattle.refusals.specs.declared.Refusal.{Refusal}
-use Rattle.passes.specs.declared.Counts.{Counts}
+use Rattle.records.specs.declared.Counts.{Counts}
 
 abbrev pub read_numbers : Result Counts Refusal → Reply
 read_numbers = reply_of (λ c. c.bytes ∷ c.lines ∷ c.tokens ∷ [])

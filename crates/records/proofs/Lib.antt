@@ -1,4 +1,4 @@
-pub mod Five
 pub mod Widths
-pub mod LineRecords
+pub mod Stores
 pub mod Words
+pub mod Takes

@@ -1,2 +1,4 @@
 pub mod States
 pub mod Words
+pub mod Sinks
+pub mod SinkLaws

@@ -1,8 +1,9 @@
 -- Records, by their words.
 -- Assumes nothing.
-use Rattle.std.specs.Prelude.{ℕ, ◌+◌, ◌*◌, not, List, [], ◌∷◌, eqb, get_or, take, drop}
+use Rattle.std.specs.Prelude.{ℕ, ◌+◌, ◌*◌, List, [], ◌∷◌, get_or, take, drop}
 use Rattle.rules.specs.Line.{State}
 use Rattle.rules.specs.Records.{width_words, line_size}
+use Rattle.records.specs.States.{state_at}
 use Rattle.records.specs.declared.Place.{Place}
 
 -- the record of a token at this offset of the line
@@ -23,9 +24,4 @@ state_in lines j = take (3 + width_words) (drop (line_size * j + 2) lines)
 
 -- the state in record i
 abbrev pub state_from : List ℕ → (i : ℕ) → State
-state_from lines i =
-    record {
-      depth = line_word lines i 2;
-      arrow = not (eqb (line_word lines i 3) 0);
-      widths = take (line_word lines i 4) (take width_words (drop (line_size * i + 5) lines));
-    }
+state_from lines i = state_at lines (line_size * i + 2)

@@ -12,7 +12,7 @@ pub mod bounds;
 pub use bounds::LineLimits;
 
 // What a text is held to: so many bytes, the number of the refusal of a longer one, and so many open levels before each line, with the number of
-// the refusal of one more.
+// the refusal of one more. The numbers are data, as in the rules: other limits have other numbers.
 #[derive(Clone, Copy)]
 pub struct Limits {
     pub bytes: usize,

@@ -27,9 +27,9 @@ use Rattle.refusals.specs.declared.Unread.TheVariants.{TooLong, Malformed, Fails
 use Rattle.refusals.specs.declared.Buffer.TheVariants as buffers
 use Rattle.refusals.specs.declared.Refusal.{Refusal}
 use Rattle.refusals.specs.declared.Refusal.TheVariants as refused
-use Rattle.passes.specs.declared.Counts.{Counts}
+use Rattle.records.specs.declared.Counts.{Counts}
 use Rattle.passes.specs.Passes.{pass_of}
-use Rattle.passes.proofs.Passes.{pass-refused}
+use Rattle.passes.proofs.Passes.{pass_refused}
 use Rattle.copies.proofs.Joins.{front-over}
 use Rattle.message.proofs.Whole.{message_of_lem}
 use Rattle.message.specs.Messages.{message_in, Printable}
@@ -102,13 +102,13 @@ module _ (t out : List ℕ) where
   pub failed-answer : (f : FailureRecord) → Err (Fails f) ≡ pass_of (fresh_reading t) → (a : Answer) (O : List ℕ) → Answered (written out (message_in t f)) a O → Answered (report_into t out) a O
   unfolding report_into report_by
   failed-answer f e a O j =
-      let is = pass-refused (fresh_reading t) (Fails f) e in
+      let is = pass_refused (fresh_reading t) (Fails f) e in
       answered-by _ _ a O (ap (report_by t out) is ∙ ap (written out) (sym (message_of_lem t (record_of f)))) j
 
   -- with another refusal
   pub other-answer : (u : Unread) → Err u ≡ pass_of (fresh_reading t) → ((f : FailureRecord) → u ≡ Fails f → ⊥) → Answered (report_into t out) (Err (refused.Reading u)) out
   unfolding report_into report_by
-  other-answer u e k = answered-by _ _ (Err (refused.Reading u)) out (ap (report_by t out) (pass-refused (fresh_reading t) u e)) (go u k)
+  other-answer u e k = answered-by _ _ (Err (refused.Reading u)) out (ap (report_by t out) (pass_refused (fresh_reading t) u e)) (go u k)
     where
       go : (v : Unread) → ((f : FailureRecord) → v ≡ Fails f → ⊥) → Answered (report_by t out (unread (unread_of v))) (Err (refused.Reading v)) out
       go (TooLong number n) k = (refl, refl)

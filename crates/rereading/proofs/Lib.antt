@@ -1,5 +1,6 @@
 pub mod Words
 pub mod OldLines
 pub mod Rereads
-pub mod Rewrites
+pub mod Rooms
+pub mod Loops
 pub mod Ends

@@ -1,3 +1,3 @@
 pub mod Words
 pub mod Rereads
-pub mod Rewrites
+pub mod Sinks

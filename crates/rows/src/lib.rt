@@ -19,11 +19,11 @@ fn put_labelled<P: Printer>(out: &mut P, label: &[u8], n: u32)
 }
 
 // The row of a token.
-fn put_row<P: Printer>(out: &mut P, record: &[u32; records::TOKEN])
-    requires { P.fits out.old (length (token_row record.now)) }
-    ensures { P.prints out.old (token_row record.now) out.new }
+fn put_row<P: Printer>(out: &mut P, row: &[u32; records::TOKEN])
+    requires { P.fits out.old (length (token_row row.now)) }
+    ensures { P.prints out.old (token_row row.now) out.new }
 {
-    let [kind, position, size, line, column] = *record;
+    let [kind, position, size, line, column] = *row;
     put_labelled(out, b"(tok ", kind);
     put_labelled(out, b" (at ", position);
     put_labelled(out, b" ", line);

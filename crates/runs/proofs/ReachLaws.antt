@@ -1,28 +1,16 @@
--- Runs by the table: the table's rule, a turn of the loop, and the runs of words, digits and spaces.
+-- Runs by the table: a turn of the loop, and the runs of words, digits and spaces.
 -- Assumes nothing.
-use Prim.Native.Nat.{ℕ, ◌+◌, ◌*◌, ◌/◌, ◌%◌, ◌≤◌, ◌<◌}
+use Prim.Native.Nat.{ℕ, ◌+◌, ◌≤◌, ◌<◌}
 use mathlib.Core.Path.{◌≡◌, refl, sym, ◌∙◌}
 use mathlib.Core.Bool.{Bool, true, false, not}
 use mathlib.Core.List.{List}
 use native.Mathlib.Omega.{arith}
 use lib.ListN.{length, get_or, drop, length-drop}
-use Rattle.laws.proofs.Below.{entry}
 use Rattle.rules.specs.Lists.{bit, run}
 use Rattle.rules.specs.Cut.{in_decimal, in_hex, in_word}
 use Rattle.rules.specs.Line.{is_space}
 use Rattle.rules.proofs.ListLaws.{run-pass, run-stop, run-le}
-use Rattle.tables.specs.Bytes.{reach_table, reaches, misses}
-use Rattle.tables.specs.All.{all_tables}
-use Rattle.tables.proofs.Parts.{reach_part, part-entry}
-
--- the table's answer for one byte
-pub miss_bit : (which b : ℕ) {l : List ℕ} → l ≡ all_tables → which < 4 → b < 256 → get_or l (256 + 256 * which + b) 0 ≡ bit (misses which b)
-unfolding reach_table
-miss_bit which b e k h =
-    let q : (256 * which + b) / 256 ≡ which = omega arith in
-    let r : (256 * which + b) % 256 ≡ b = omega arith in
-    part-entry reach_part e (256 * which + b) (256 + 256 * which + b) (omega arith) (omega arith)
-    ∙ rw (entry (λ i. bit (misses (i / 256) (i % 256))) 1024 (256 * which + b) 0 (omega arith), q, r)
+use Rattle.tables.specs.Bytes.{reaches, misses}
 
 pub missed : (which b : ℕ) → reaches which b ≡ not (misses which b)
 missed which b = go (reaches which b)

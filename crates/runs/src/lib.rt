@@ -1,67 +1,44 @@
-// Byte classes and runs of bytes, by the lent tables.
+// Runs of bytes, by the lent tables.
 #![tactic(auto)]
 
-ghost use Rattle.std.specs.Prelude.{◌≡◌, ◌+◌, ◌≤◌, ◌<◌, length, drop};
-ghost use Rattle.rules.specs.Lists.{bit, run};
-ghost use Rattle.rules.specs.Tables.{class_of};
+ghost use Rattle.std.specs.Prelude.{◌≡◌, ◌+◌, ◌≤◌, length, drop};
+ghost use Rattle.rules.specs.Lists.{run};
 ghost use Rattle.tables.specs.Bytes.{reaches, misses};
-ghost use Rattle.tables.specs.All.{all_tables};
+ghost use Rattle.tables.specs.Named.{run_number};
 ghost use Rattle.runs.specs.Masks.{mask_of};
 
-// The class of a byte: 0 blank, 1 `#`, 2 letter, 3 digit, 4 quote, 5 sign, 6 other.
-pub fn class_of(tables: &[u8; tables::SIZE], b: u8) -> u8
-    requires { tables.now ≡ all_tables }
-    ensures { result ≡ class_of b }
-{
-    tables[b as usize]
-}
-
-// 1 where a byte ends the run `which`, otherwise 0: 0 is a word, 1 hexadecimal and 2 decimal digits, 3 spaces.
-fn miss(tables: &[u8; tables::SIZE], b: u8, which: usize) -> u32
-    requires tables_value { tables.now ≡ all_tables }
-    requires which_bound { which < 4 }
-    ensures { result ≡ bit (misses which b) }
-{
-    tables[256 + 256 * which + b as usize] as u32
-}
+use tables::{Run, Tables};
 
 // Which of the four bytes from `at` on end the run: bit j is set for byte j.
-fn miss_mask(tables: &[u8; tables::SIZE], line: &[u8], at: usize, which: usize) -> u32
-    requires tables_value { tables.now ≡ all_tables }
-    requires at_in_bounds { at + 4 ≤ length line.now }
-    requires which_bound { which < 4 }
-    ensures { result ≡ mask_of (misses which) 4 (drop at line.now) }
+fn miss_mask(tables: &Tables, line: &[u8], at: usize, which: Run) -> u32
+    requires { at + 4 ≤ length line.now }
+    ensures { result ≡ mask_of (misses (run_number which)) 4 (drop at line.now) }
 {
-    let a = miss(tables, line[at], which);
-    let b = miss(tables, line[at + 1], which);
-    let c = miss(tables, line[at + 2], which);
-    let d = miss(tables, line[at + 3], which);
+    let a = tables.ends_run(which, line[at]);
+    let b = tables.ends_run(which, line[at + 1]);
+    let c = tables.ends_run(which, line[at + 2]);
+    let d = tables.ends_run(which, line[at + 3]);
     a + 2 * b + 4 * c + 8 * d
 }
 
 // Where the run from `at` on ends, byte by byte: at a byte that ends it or at the line's end.
-fn run_by_bytes(tables: &[u8; tables::SIZE], line: &[u8], at: usize, which: usize) -> usize
-    requires tables_value { tables.now ≡ all_tables }
-    requires at_in_bounds { at ≤ length line.now }
-    requires which_bound { which < 4 }
-    ensures { result ≡ at + run (reaches which) (drop at line.now) }
+fn run_by_bytes(tables: &Tables, line: &[u8], at: usize, which: Run) -> usize
+    requires { at ≤ length line.now }
+    ensures { result ≡ at + run (reaches (run_number which)) (drop at line.now) }
 {
-    let mut i = at;
-    while i < line.len() {
-        if miss(tables, line[i], which) != 0 {
+    for i in at..line.len() {
+        if tables.ends_run(which, line[i]) != 0 {
             return i;
         }
-        i += 1;
     }
-    i
+    line.len()
 }
 
 // The same, four bytes a turn: a run's length is hard to foretell, and a mask finds its end without a branch at each byte.
-pub fn run_end(tables: &[u8; tables::SIZE], line: &[u8], at: usize, which: usize) -> usize
-    requires tables_value { tables.now ≡ all_tables }
-    requires at_in_bounds { at ≤ length line.now }
-    requires which_bound { which < 4 }
-    ensures { result ≡ at + run (reaches which) (drop at line.now) }
+// The place is counted by hand, since the bytes behind the last whole block begin there.
+pub fn run_end(tables: &Tables, line: &[u8], at: usize, which: Run) -> usize
+    requires { at ≤ length line.now }
+    ensures { result ≡ at + run (reaches (run_number which)) (drop at line.now) }
 {
     let mut i = at;
     while 4 <= line.len() - i {

@@ -36,7 +36,7 @@ fn put_unread(out: &mut [u8], text: &[u8], u: refusals::Unread) -> usize
 }
 
 // What `scan` prints for a text, at the front of out; its length. 65,536 bytes hold it for every text. So do 513 line records and 1,024
-// token records for a text of 512 bytes: no refusal occurs but those of the text.
+// token records for a text of 512 bytes: no refusal occurs but those of the text. The sizes are fixed, since the controller has no heap.
 #[tactic(auto, using(crate::proofs::Scans::long_size, crate::proofs::Scans::long_over))]
 fn put_scan(out: &mut [u8], text: &[u8]) -> usize
     requires { 65_536 ≤ length out.old }

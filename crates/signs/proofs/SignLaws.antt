@@ -10,18 +10,16 @@ use lib.Dec.{leb, leb→le, eqb}
 use lib.ListN.{length, get_or, drop, drop_of_length-le}
 use lib.Seq.{drop-cons, drop-drop}
 use borrow.Author.Tests.{eqb-true, ne_eqb, leb-true}
-use Rattle.laws.proofs.Below.{at, entry}
+use Rattle.laws.proofs.Below.{at}
 use Rattle.std.specs.Prelude.{if◌then◌else◌}
 use Rattle.rules.specs.Lists.{within, ascii, any, every, elem, begins, run, same}
 use Rattle.rules.specs.Tables.{Spelling, signs, table_rules}
 use Rattle.rules.specs.Cut.{comment, token, sign_cut}
 use Rattle.rules.proofs.ListLaws.{and-true, or_by, run-le}
 use Rattle.rules.proofs.StateLaws.{same_true}
-use Rattle.tables.specs.Signs.{code_of, code_in, sign_code, first_bytes, second_bytes, place_of, pair_code, sign_table, sign_index, sign_index_table, code_rules}
+use Rattle.tables.specs.Signs.{code_of, code_in, sign_code, first_bytes, second_bytes, place_of, pair_code, sign_index, code_rules}
 use Rattle.signs.specs.Codes.{code_cut, column_of, longer, longer_by}
-use Rattle.tables.specs.All.{all_tables}
 use Rattle.tables.proofs.Entries.{by-table}
-use Rattle.tables.proofs.Parts.{index_part, signs-part, part-entry}
 
 -- A byte in a list.
 
@@ -188,14 +186,6 @@ pub no_column : (line : List ℕ) (at : ℕ) → length line ≤ at → 7 ≡ co
 unfolding place_of second_bytes run
 no_column line at h = rw (drop_of_length-le line h)
 
-column-entry : (b : ℕ) → b < 256 → get_or sign_table b 0 ≡ place_of b second_bytes
-unfolding code_rules table_rules
-column-entry b h = by-table (λ m. get_or sign_table m 0) (λ m. place_of m second_bytes) 256 0 refl b h
-
-pub column-is : {l : List ℕ} → l ≡ all_tables → (line : List ℕ) (at : ℕ) → at < length line → get_or line at 0 < 256
-    → get_or l (1536 + get_or line at 0) 0 ≡ column_of (drop at line)
-column-is e line at h k = part-entry signs-part e (get_or line at 0) (1536 + get_or line at 0) refl (omega arith) ∙ rw (drop-cons line at 0 h) (column-entry (get_or line at 0) k)
-
 -- whether the byte after the next is `=`
 pub no_third : (line : List ℕ) (at : ℕ) → length line - at < 2 → begins (ascii "=") (drop 1 (drop at line)) ≡ false
 unfolding begins
@@ -208,60 +198,45 @@ pub third-is : (line : List ℕ) (at : ℕ) → at + 1 < length line → begins 
 unfolding begins
 third-is line at h = rw (drop-drop 1 at line, drop-cons line (at + 1) 0 h)
 
-code-entry : (i : ℕ) → i < 104 → get_or sign_table (256 + i) 0 ≡ pair_code i
-unfolding code_rules table_rules
-code-entry i h = by-table (λ m. get_or sign_table (256 + m) 0) pair_code 104 0 refl i h
-
 -- a code of one byte is no longer before `=`
 short-same : (t : Bool) (c : ℕ) → c < 128 → longer_by t c ≡ c
 unfolding code_rules table_rules longer longer_by
 short-same true c h = rw (ne_eqb c 201 (λ e. omega arith), ne_eqb c 177 (λ e. omega arith), ne_eqb c 178 (λ e. omega arith))
 short-same false c h = refl
 
-module _ {l : List ℕ} (e : l ≡ all_tables) (line : List ℕ) (at : ℕ) (inside : at < length line) (byte : get_or line at 0 < 256) where
+-- the sign at `at`, by what is looked up by its first byte
+module _ (line : List ℕ) (at : ℕ) (inside : at < length line) (byte : get_or line at 0 < 256) {found : ℕ} (is : found ≡ sign_index (get_or line at 0)) where
   abbrev b : ℕ
   b = get_or line at 0
 
   abbrev rest : List ℕ
   rest = drop (at + 1) line
 
-  -- what is looked up by the first byte
-  abbrev found : ℕ
-  found = get_or l (1280 + b) 0
-
-  row_is : found ≡ sign_index b
-  unfolding sign_index_table
-  row_is = part-entry index_part e b (1280 + b) refl byte ∙ entry sign_index 256 b 0 byte
-
   parts : drop at line ≡ b ∷ rest
   parts = drop-cons line at 0 inside ∙ rw add-one
 
   pub row_small : found < 232
-  row_small = omega (arith, row_is, index_small b byte)
+  row_small = omega (arith, is, index_small b byte)
 
   pub by_byte : found < 128 → found ≡ sign_code (drop at line)
-  by_byte h = row_is ∙ alone b rest (omega (arith, row_is)) ∙ ap sign_code (sym parts)
+  by_byte h = is ∙ alone b rest (omega (arith, is)) ∙ ap sign_code (sym parts)
 
   module _ (some : 128 ≤ found) where
     row : 128 ≤ sign_index b
-    row = omega (arith, row_is)
+    row = omega (arith, is)
 
-    pub pair_inside : {column : ℕ} → column < 8 → 1664 + found + column < 1896
-    pair_inside h = omega (arith, row_is, (in_row b byte row).0, row_small)
+    pub pair_inside : {column : ℕ} → column ≡ column_of rest → found - 128 + column < 104
+    pair_inside at_column = omega (arith, is, (in_row b byte row).0, row_small, column-small (get_or rest 0 0) at_column)
 
-    pair_is : {column : ℕ} → column ≡ column_of rest → 1664 + found + column ≡ 1792 + pair_at b rest
-    pair_is is = omega (arith, row_is, (in_row b byte row).0, is)
+    code_is : {column : ℕ} → column ≡ column_of rest → pair_code (found - 128 + column) ≡ pair_code (pair_at b rest)
+    code_is at_column = ap pair_code (omega (arith, is, (in_row b byte row).0, at_column))
 
-    code_is : {column : ℕ} → column ≡ column_of rest → get_or l (1664 + found + column) 0 ≡ pair_code (pair_at b rest)
-    code_is is =
-        let h = pair_small b rest byte row in
-        part-entry signs-part e (256 + pair_at b rest) _ (omega (arith, pair_is is)) (omega arith) ∙ code-entry (pair_at b rest) h
+    pub by_pairs : {column code : ℕ} → column ≡ column_of rest → code ≡ pair_code (found - 128 + column)
+        → longer_by (begins (ascii "=") (drop 1 rest)) code ≡ sign_code (drop at line)
+    by_pairs at_column e = rw (e, code_is at_column, parts) (sym (by_rows b rest byte row))
 
-    pub by_pairs : {column : ℕ} → column ≡ column_of rest → longer_by (begins (ascii "=") (drop 1 rest)) (get_or l (1664 + found + column) 0) ≡ sign_code (drop at line)
-    by_pairs is = rw (code_is is, parts) (sym (by_rows b rest byte row))
-
-    pub by_two : {column : ℕ} → column ≡ column_of rest → get_or l (1664 + found + column) 0 < 128 → get_or l (1664 + found + column) 0 ≡ sign_code (drop at line)
-    by_two is h = sym (short-same (begins (ascii "=") (drop 1 rest)) _ h) ∙ by_pairs is
+    pub by_two : {column code : ℕ} → column ≡ column_of rest → code ≡ pair_code (found - 128 + column) → code < 128 → code ≡ sign_code (drop at line)
+    by_two at_column e h = sym (short-same (begins (ascii "=") (drop 1 rest)) _ h) ∙ by_pairs at_column e
 
 -- The cut of a sign, by its code.
 

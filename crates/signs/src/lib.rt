@@ -4,26 +4,18 @@
 ghost use Rattle.std.specs.Prelude.{◌≡◌, ◌≤◌, ◌<◌, length, drop};
 ghost use Rattle.rules.specs.Lists.{ascii, begins};
 ghost use Rattle.tables.specs.Signs.{sign_code};
-ghost use Rattle.tables.specs.All.{all_tables};
 ghost use Rattle.signs.specs.Codes.{column_of, longer_by};
 
-// Where the tables have the signs of one byte or the rows of longer ones, and the columns; 128 before where they have the codes, since a row is
-// told by 128 more.
-const ROWS: usize = 1280;
-
-const COLUMNS: usize = 1536;
-
-const CODES: usize = 1664;
+use tables::Tables;
 
 // The column of the byte at `at`; that of another byte at the line's end.
-fn column_at(tables: &[u8; tables::SIZE], line: &[u8], at: usize) -> usize
-    requires { tables.now ≡ all_tables }
+fn column_at(tables: &Tables, line: &[u8], at: usize) -> usize
     ensures { result ≡ column_of (drop at line.now) }
 {
     if line.len() <= at {
         return 7;
     }
-    tables[COLUMNS + line[at] as usize] as usize
+    tables.sign_column(line[at])
 }
 
 // The code of a sign of two bytes, of which the second stands at `at`: before a `=` three of them are longer.
@@ -31,10 +23,7 @@ fn longer_sign(line: &[u8], at: usize, code: u32) -> u32
     requires { at ≤ length line.now }
     ensures { result ≡ longer_by (begins (ascii "=") (drop 1 (drop at line.now))) code }
 {
-    if line.len() - at < 2 {
-        return code;
-    }
-    if line[at + 1] != 61 {
+    if line.len() - at < 2 || line[at + 1] != b'=' {
         return code;
     }
     match code {
@@ -46,17 +35,17 @@ fn longer_sign(line: &[u8], at: usize, code: u32) -> u32
 }
 
 // The code of the sign at `at`: its kind, and 128 more for each byte beyond the first; 1 for a comment, 0 for a lone `&`. A byte that no
-// longer sign begins with is looked up by itself; the others by row and column.
-pub fn sign_code(tables: &[u8; tables::SIZE], line: &[u8], at: usize) -> u32
-    requires tables_value { tables.now ≡ all_tables }
-    requires at_in_bounds { at < length line.now }
+// longer sign begins with is looked up by itself; the others by row and column. The code stays a number: in a struct, kind and length cost the
+// loop over a line 3 to 7 % when that was tried.
+pub fn sign_code(tables: &Tables, line: &[u8], at: usize) -> u32
+    requires { at < length line.now }
     ensures { result ≡ sign_code (drop at line.now) }
 {
-    let row = tables[ROWS + line[at] as usize] as usize;
+    let row = tables.sign_row(line[at]);
     if row < 128 {
         return row as u32;
     }
-    let code = tables[CODES + row + column_at(tables, line, at + 1)] as u32;
+    let code = tables.pair_code(row - 128 + column_at(tables, line, at + 1));
     if code < 128 {
         return code;
     }

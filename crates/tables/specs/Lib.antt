@@ -1,4 +1,4 @@
 pub mod Bytes
 pub mod Keywords
 pub mod Signs
-pub mod All
+pub mod Named

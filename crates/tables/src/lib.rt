@@ -1,14 +1,36 @@
-// The tables of bytes, spellings and signs, each held to its rule, and all of them in one array that a caller makes once and lends.
+// The tables of bytes, spellings and signs, each held to its rule; a caller makes them once and lends them.
 #![tactic(auto)]
 
-ghost use Rattle.std.specs.Prelude.{◌≡◌};
-ghost use Rattle.tables.specs.Bytes.{class_table, reach_table};
-ghost use Rattle.tables.specs.Keywords.{keyword_table};
-ghost use Rattle.tables.specs.Signs.{sign_table, sign_index_table};
-ghost use Rattle.tables.specs.All.{all_tables};
+pub mod kinds;
 
-// The bytes of all tables.
-pub const SIZE: usize = 2435;
+ghost use Rattle.std.specs.Prelude.{◌≡◌, ◌+◌, ◌*◌, ◌≤◌, ◌<◌, get_or};
+ghost use Rattle.rules.specs.Lists.{bit};
+ghost use Rattle.rules.specs.Tables.{class_of};
+ghost use Rattle.tables.specs.Bytes.{class_table, reach_table, misses};
+ghost use Rattle.tables.specs.Keywords.{keyword_start, keyword_table};
+ghost use Rattle.tables.specs.Signs.{place_of, second_bytes, pair_code, sign_table, sign_index, sign_index_table};
+ghost use Rattle.tables.specs.Named.{class_number, run_number};
+
+// What a byte begins: nothing, a comment, a word, a number, a string, a sign; or no rule takes it.
+#[derive(Clone, Copy, PartialEq, Eq, Debug)]
+pub enum Class {
+    Blank,
+    Hash,
+    Letter,
+    Digit,
+    Quote,
+    Sign,
+    Other,
+}
+
+// A run of bytes: a word; hexadecimal or decimal digits, each with `_`; spaces.
+#[derive(Clone, Copy, PartialEq, Eq, Debug)]
+pub enum Run {
+    Word,
+    Hex,
+    Decimal,
+    Spaces,
+}
 
 // The class of each byte: 0 blank, 1 `#`, 2 letter, 3 digit, 4 quote, 5 sign, 6 other.
 const CLASS: [u8; 256] = *b"\
@@ -238,20 +260,105 @@ fn keyword_table() -> [u8; 539]
     KEYWORDS
 }
 
-// The tables, one after the other: classes, runs from 256 on, rows of signs from 1280 on, signs from 1536 on, keywords from 1896 on.
-pub fn tables() -> [u8; SIZE]
-    ensures { result ≡ all_tables }
-{
-    let class = class_table();
-    let reach = reach_table();
-    let index = sign_index();
-    let signs = sign_table();
-    let keywords = keyword_table();
-    let mut all: [u8; SIZE] = [0; SIZE];
-    copies::copy_bytes(&mut all, 0, &class);
-    copies::copy_bytes(&mut all, 256, &reach);
-    copies::copy_bytes(&mut all, 1280, &index);
-    copies::copy_bytes(&mut all, 1536, &signs);
-    copies::copy_bytes(&mut all, 1896, &keywords);
-    all
+// The tables, arrays of a fixed size as all that the controller is lent.
+#[derive(Drop)]
+pub struct Tables {
+    classes: [u8; 256],
+    run_ends: [u8; 1024],
+    sign_rows: [u8; 256],
+    signs: [u8; 360],
+    keywords: [u8; 539],
+    ghost classes_right: { classes ≡ class_table },
+    ghost run_ends_right: { run_ends ≡ reach_table },
+    ghost sign_rows_right: { sign_rows ≡ sign_index_table },
+    ghost signs_right: { signs ≡ sign_table },
+    ghost keywords_right: { keywords ≡ keyword_table },
+}
+
+impl Tables {
+    pub fn new() -> Self {
+        Tables {
+            classes: class_table(),
+            run_ends: reach_table(),
+            sign_rows: sign_index(),
+            signs: sign_table(),
+            keywords: keyword_table(),
+        }
+    }
+
+    // The class of a byte.
+    pub fn class_of(&self, b: u8) -> Class
+        ensures { class_number result ≡ class_of b }
+    {
+        match self.classes[b as usize] {
+            0 => Class::Blank,
+            1 => Class::Hash,
+            2 => Class::Letter,
+            3 => Class::Digit,
+            4 => Class::Quote,
+            5 => Class::Sign,
+            _ => Class::Other,
+        }
+    }
+
+    // 1 where a byte ends the run, otherwise 0.
+    pub fn ends_run(&self, run: Run, b: u8) -> u32
+        ensures { result ≡ bit (misses (run_number run) b) }
+    {
+        self.run_ends[256 * run as usize + b as usize] as u32
+    }
+
+    // The code of a sign that no longer one begins with, by its byte; for another byte 128 more than eight times its row.
+    pub fn sign_row(&self, b: u8) -> usize
+        ensures { result ≡ sign_index b }
+    {
+        self.sign_rows[b as usize] as usize
+    }
+
+    // The column of a sign's second byte.
+    pub fn sign_column(&self, b: u8) -> usize
+        ensures { result ≡ place_of b second_bytes }
+    {
+        self.signs[b as usize] as usize
+    }
+
+    // The code of two bytes, by row and column, eight columns a row.
+    pub fn pair_code(&self, pair: usize) -> u32
+        requires { pair < 104 }
+        ensures { result ≡ pair_code pair }
+    {
+        self.signs[256 + pair] as u32
+    }
+
+    // The row at which the spellings of a letter begin, by the letter's last five bits; from 32 the one at which the last ones end.
+    pub fn keyword_start(&self, letter: usize) -> usize
+        requires { letter ≤ 32 }
+        ensures { result ≡ keyword_start letter }
+    {
+        self.keywords[506 + letter] as usize
+    }
+
+    // The length of a row's spelling.
+    pub fn keyword_length(&self, row: usize) -> usize
+        requires { row < 46 }
+        ensures { result ≡ get_or keyword_table (11 * row) 0 }
+    {
+        self.keywords[11 * row] as usize
+    }
+
+    // The kind of a row's keyword.
+    pub fn keyword_kind(&self, row: usize) -> u32
+        requires { row < 46 }
+        ensures { result ≡ get_or keyword_table (11 * row + 1) 0 }
+    {
+        self.keywords[11 * row + 1] as u32
+    }
+
+    // A byte of a row's spelling.
+    pub fn keyword_byte(&self, row: usize, j: usize) -> u8
+        requires { (row < 46) × (j < 9) }
+        ensures { result ≡ get_or keyword_table (11 * row + 2 + j) 0 }
+    {
+        self.keywords[11 * row + 2 + j]
+    }
 }

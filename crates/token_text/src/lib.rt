@@ -12,15 +12,9 @@ ghost use Rattle.token_text.specs.Places.{part_place};
 
 use header::Page;
 use refusals::{Buffer, Refusal};
+use tables::kinds;
 
-// The kinds whose text stands in the names.
-const INDENT: u32 = 90;
-
-const DEDENT: u32 = 91;
-
-const NEWLINE: u32 = 92;
-
-// Where their names begin, and where the last one ends.
+// Where the names of INDENT, DEDENT and NEWLINE begin, and where the last one ends.
 const INDENT_NAME: usize = 0;
 
 const DEDENT_NAME: usize = 8;
@@ -44,12 +38,12 @@ struct Granted {
     size: usize,
 }
 
-// A kind above 92, or a token that reaches past n.
+// A kind above the last one, or a token that reaches past n.
 fn is_unfit(n: usize, kind: u32, position: usize, size: usize) -> bool
     requires { position + size < 2 ^ 64 }
     ensures { result ≡ (not (is_kind kind) || ltb n (position + size)) }
 {
-    if NEWLINE < kind {
+    if kinds::NEWLINE < kind {
         return true;
     }
     n < position + size
@@ -89,9 +83,9 @@ fn part_by_kind(kind: u32, position: usize, size: usize) -> Part
     ensures { part_values result ≡ part_words (part_by kind position size) }
 {
     match kind {
-        INDENT => Part::Names(INDENT_NAME, DEDENT_NAME - INDENT_NAME),
-        DEDENT => Part::Names(DEDENT_NAME, NEWLINE_NAME - DEDENT_NAME),
-        NEWLINE => Part::Names(NEWLINE_NAME, NAMES_END - NEWLINE_NAME),
+        kinds::INDENT => Part::Names(INDENT_NAME, DEDENT_NAME - INDENT_NAME),
+        kinds::DEDENT => Part::Names(DEDENT_NAME, NEWLINE_NAME - DEDENT_NAME),
+        kinds::NEWLINE => Part::Names(NEWLINE_NAME, NAMES_END - NEWLINE_NAME),
         _ => Part::Text(position, size),
     }
 }
@@ -110,9 +104,9 @@ fn text_by_kind<'a>(
     ensures ref_ptr_value { result.ref_ptr ≡ part_place text.entry.ref_ptr names.entry.ref_ptr (part_by kind position size) }
 {
     match kind {
-        INDENT => &names[INDENT_NAME..DEDENT_NAME],
-        DEDENT => &names[DEDENT_NAME..NEWLINE_NAME],
-        NEWLINE => &names[NEWLINE_NAME..NAMES_END],
+        kinds::INDENT => &names[INDENT_NAME..DEDENT_NAME],
+        kinds::DEDENT => &names[DEDENT_NAME..NEWLINE_NAME],
+        kinds::NEWLINE => &names[NEWLINE_NAME..NAMES_END],
         _ => {
             let end = position + size;
             &text[position..end]

@@ -1,49 +1,32 @@
 -- What the writes of a plan come to.
 -- Assumes nothing.
-use Prim.Native.Nat.{ℕ, zero, suc, ◌+◌, ◌-◌, ◌*◌, ◌≤◌}
-use mathlib.Core.Path.{◌≡◌, refl, sym, ap, ◌∙◌}
-use mathlib.Core.Bool.{Bool, true, false}
-use mathlib.Core.List.{List, [], ◌∷◌, ◌++◌}
-use native.Mathlib.Omega.{arith}
-use lib.ListN.{length, take, drop, length-append, length-drop, length-replicate, take-append-drop}
-use lib.Seq.{sets, length-take-le, take-nil}
-use Rattle.rules.specs.Line.{State, token_at, dedents}
-use Rattle.rules.specs.Reading.{Line, is_lf, onto, lines_of, Reading, reads, halts, lines_read, token_sum}
-use Rattle.rules.specs.Limits.{max_levels, barge_line}
-use Rattle.rules.specs.Records.{line_size, token_size, line_record, line_records, token_words, token_records, end_entry, with_end}
-use Rattle.rules.proofs.LineLaws.{total, next, total_append, total-lines}
-use Rattle.rules.proofs.ReadingLaws.{read-sizes, token_sum_append}
-use Rattle.rules.proofs.RecordLaws.{length_line_records, length_token_records}
-use Rattle.laws.specs.Puts.{put_if}
+use Rattle.std.proofs.Common.{ℕ, zero, suc, ◌≡◌, ◌+◌, ◌-◌, ◌*◌, ◌≤◌, refl, sym, ap, ◌∙◌, Bool, true, false, List, [], ◌∷◌, ◌++◌, is_some, Result, Ok, Err, length, take, drop, inr, arith}
+use lib.Seq.{sets, take-nil}
 use Rattle.laws.proofs.Sets.{sets_before}
-use Rattle.records.specs.States.{state_of}
-use Rattle.records.specs.declared.State as LineState
-use Rattle.rereading.specs.Rewrites.{RoomFrom, FewFrom, Reaches}
-use Rattle.rereading.proofs.Rewrites.{more-lines, more-tokens}
+use Rattle.rules.specs.Lists.{bit}
+use Rattle.rules.specs.Line.{State, dedents}
+use Rattle.rules.specs.Reading.{Entry, Line, is_lf, onto, lines_of, Reading, reads, halts, read_from, byte_sum, token_sum}
+use Rattle.rules.specs.Limits.{barge, barge_line, LineLimits}
+use Rattle.rules.specs.Records.{line_size, token_size, line_record, line_records, token_words, token_records, end_entry}
+use Rattle.rules.proofs.LineLaws.{total, next}
+use Rattle.rules.proofs.ReadingLaws.{read-sizes}
+use Rattle.rules.proofs.RecordLaws.{length_line_records, length_token_records}
+use Rattle.records.specs.Sinks.{SinkLaws}
 use Rattle.records.specs.Words.{state_from}
-use Rattle.plans.specs.Plans.{new_lines, planned_lines, ReadsAs, Planned, Roomy}
+use Rattle.records.specs.declared.Counts.{Counts}
+use Rattle.records.specs.declared.Place.{Place}
+use Rattle.records.proofs.Takes.{then-takes, fits_after}
+use Rattle.refusals.specs.Limits.{line_of, limits_of}
+use Rattle.refusals.specs.declared.Limits.{Limits}
+use Rattle.refusals.specs.declared.Unread.{Unread}
+use Rattle.refusals.proofs.Barge.{barge-line}
+use Rattle.rereading.specs.Sinks.{RoomFrom, Few, AllTaken, EndIs}
+use Rattle.rereading.proofs.Rooms.{line_place, line_then, token_place, token_then}
+use Rattle.plans.specs.Plans.{before_end, end_lines, end_tokens, moved_to, new_lines, reread, planned_lines, ReadsAs, Planned}
 use Rattle.plans.specs.declared.Plan.{Plan}
-use Rattle.writing.specs.Writes.{written}
-
--- the numbers of a plan, each far within its word
-pub record Bounds (m k : ℕ) (p : Plan) : Type 0 where
-  pub few-lines : m ≤ 1_048_576
-  pub i : p.i ≤ 1_048_576
-  pub j : p.j ≤ m + 1
-  pub lines : p.lines ≤ 1_048_577
-  pub count : p.count ≤ 1_048_577
-  pub from : p.from ≤ k
-  pub few-tokens : k ≤ 2_097_152
-  pub tokens : p.first + p.tokens ≤ 2_097_152
-  pub read : p.first + p.read ≤ 2_097_152
-  pub old : p.old ≤ 4_294_967_295
-  pub new : p.new ≤ 1_048_576
-
--- the code's state and widths, after the lines read again
-pub record Reached (R : Reading) (s : LineState.State) (ws : List ℕ) : Type 0 where
-  pub few : s.levels ≤ max_levels
-  pub wide : length ws ≡ max_levels
-  pub is : Reaches R (state_of s ws)
+use Rattle.plans.proofs.NewLines.{new_sizes, levels_are}
+use Rattle.moving.specs.Moved.{moved_lines, moved_tokens}
+use Rattle.writing.specs.Writes.{written, line_tail, token_tail}
 
 -- The first lines of a text are the lines of its first bytes.
 
@@ -60,177 +43,109 @@ first-lines [] c = ap lines_of (take-nil (total (take c []))) ∙ sym (take-nil 
 first-lines (b ∷ bs) zero = refl
 first-lines (b ∷ bs) (suc c) = let x = first_next (is_lf b) b bs (lines_of bs) c (first-lines bs) in ap (λ (n : ℕ). lines_of (take n (b ∷ bs))) x.1 ∙ x.2
 
--- What a plan reads.
+-- What a plan reads, from the state z.
+
+module _ (u : List ℕ) (z : State) {p : Plan} (r : ReadsAs p (reread u z p)) where
+  abbrev R : Reading
+  R = reread u z p
+
+  abbrev at : Counts
+  at = before_end p
+
+  abbrev to : Counts
+  to = moved_to p
+
+  abbrev place : Place
+  place = record { line = p.begin.lines; first = p.begin.tokens; start = p.begin.bytes }
+
+  -- the lines read again are those of the bytes up to the kept tail
+  part-lines : lines_of (take (to.bytes - p.begin.bytes) (drop p.begin.bytes u)) ≡ take p.read.lines (lines_of (drop p.begin.bytes u))
+  part-lines =
+      let rest : List ℕ = drop p.begin.bytes u in
+      let s = read-sizes barge_line z (take p.read.lines (lines_of rest)) r.entries r.last r.reads-are in
+      let n : to.bytes - p.begin.bytes ≡ total (take p.read.lines (lines_of rest)) = omega (arith, r.bytes, s.1) in
+      ap (λ (n : ℕ). lines_of (take n rest)) n ∙ first-lines rest p.read.lines
+
+  -- read under these limits, as the code has them
+  module _ {lim : LineLimits} {limits : Limits} (lines_limits : lim ≡ line_of limits) (is-barge : limits_of limits ≡ barge) where
+    abbrev read : Reading
+    read = read_from lim z (lines_of (take (to.bytes - p.begin.bytes) (drop p.begin.bytes u)))
+
+    read-is : read ≡ reads r.entries r.last
+    read-is = (λ x. read_from ((lines_limits ∙ barge-line limits is-barge) x) z (part-lines x)) ∙ r.reads-are
+
+    pub few-tokens : to.tokens ≤ 3_000_000 → Few read p.begin.tokens
+    few-tokens h = rw read-is (inr (omega (arith, h, r.tokens)))
+
+    -- the state that is left
+    reached : {left : State} (a : Result Counts Unread) → EndIs read p.begin.bytes p.begin.lines left a → left ≡ r.last
+    reached {left} (Ok c) v = let w : reads v.0 left ≡ reads r.entries r.last = sym v.1 ∙ read-is in cc
+    reached (Err u) v =
+        let w : halts v.0 v.1 ≡ reads r.entries r.last = sym v.2 ∙ read-is in
+        let b : ◌≡◌ {A = ℕ} 0 1 = cc in
+        absurd (omega arith)
+
+    -- where the lines end: their counts are those of the plan
+    module _ {S : Type 0} {fits : S → ℕ → Type 0} {takes : S → S → ℕ → List ℕ → Type 0} {named : Bool} (laws : SinkLaws fits takes named) {l₀ t₀ : S}
+        (room : fits l₀ (line_size * to.lines) × fits t₀ (token_size * to.tokens)) where
+      pub room-from : RoomFrom (fits l₀) (fits t₀) place read
+      room-from = rw read-is (laws.fewer l₀ _ _ (omega (arith, r.lines)) room.0, laws.fewer t₀ _ _ (omega (arith, r.tokens)) room.1)
+
+      module _ {l₁ t₁ : S} (m : AllTaken (takes l₀ l₁) (takes t₀ t₁) place read) {some : Bool} (end_is : some ≡ is_some p.end) where
+        taken : takes l₀ l₁ (line_size * p.begin.lines) (line_records p.begin.bytes p.begin.tokens r.entries) × takes t₀ t₁ (token_size * p.begin.tokens) (token_records p.begin.bytes (p.begin.lines + 1) r.entries)
+        taken = rw read-is at m
+
+        -- the plan does not write the end
+        pub no-end : some ≡ false → takes l₀ l₁ (line_size * p.begin.lines) (line_records p.begin.bytes p.begin.tokens (new_lines p.end R))
+            × takes t₀ t₁ (token_size * p.begin.tokens) (token_records p.begin.bytes (p.begin.lines + 1) (new_lines p.end R))
+        no-end n = rw (r.reads-are, sym end_is ∙ n) taken
+
+        module _ (yes : some ≡ true) (left : State) (a : Result Counts Unread) (ends : EndIs read p.begin.bytes p.begin.lines left a) where
+          pub end-room : fits l₁ (line_size * at.lines + line_size) × fits t₁ (token_size * (at.tokens + length left.widths))
+          end-room = (
+            fits_after laws taken.0 (omega (arith, ap bit (sym end_is ∙ yes))) room.0,
+            fits_after laws taken.1 (omega (arith, levels_are p R r (sym end_is ∙ yes), ap (λ (w : State). length w.widths) (reached a ends))) room.1,
+          )
+
+          pub with-end-taken : {l₂ t₂ : S} → takes l₁ l₂ (line_size * at.lines) (line_record at.bytes at.tokens left) → takes t₁ t₂ (token_size * at.tokens) (token_words at.bytes (at.lines + 1) (dedents (length left.widths)))
+              → takes l₀ l₂ (line_size * p.begin.lines) (line_records p.begin.bytes p.begin.tokens (new_lines p.end R))
+              × takes t₀ t₂ (token_size * p.begin.tokens) (token_records p.begin.bytes (p.begin.lines + 1) (new_lines p.end R))
+          with-end-taken ml mt =
+              let b : p.begin.bytes + byte_sum r.entries ≡ at.bytes = omega (arith, r.bytes) in
+              let k : p.begin.tokens + token_sum r.entries ≡ at.tokens = omega (arith, r.tokens) in
+              rw (r.reads-are, sym end_is ∙ yes) (
+                then-takes laws taken.0 (line_place p.begin.bytes p.begin.lines p.begin.tokens r.entries (end_entry r.last) p.read.lines at.bytes at.tokens r.lines b k) (rw (reached a ends) at ml)
+                    (line_then p.begin.bytes p.begin.lines p.begin.tokens r.entries (end_entry r.last) p.read.lines at.bytes at.tokens r.lines b k),
+                then-takes laws taken.1 (token_place p.begin.bytes p.begin.lines p.begin.tokens r.entries (end_entry r.last) p.read.lines at.bytes at.tokens r.lines b k) (rw (reached a ends) at mt)
+                    (token_then p.begin.bytes p.begin.lines p.begin.tokens r.entries (end_entry r.last) p.read.lines at.bytes at.tokens r.lines b k),
+              )
+
+-- The words: the kept tail is moved, then what a plan writes stands before it.
 
 module _ {u lines : List ℕ} {m k : ℕ} {p : Plan} (pl : Planned u lines m k p) where
-  abbrev R : Reading
-  R = planned_lines u lines p
+  abbrev new : List Entry
+  new = written u lines p
 
-  -- where the lines read again end
-  pub new-le : p.new ≤ length u
-  new-le = go R refl pl.reads_as
-    where
-      go : (x : Reading) → R ≡ x → ReadsAs p x → p.new ≤ length u
-      go (halts es h) e r = absurd r
-      go (reads es z) e r =
-          let rest : List ℕ = drop p.base u in
-          let s = read-sizes barge_line (state_from lines p.i) (take p.count (lines_of rest)) es z e in
-          let w : total (lines_of rest) ≡ total (take p.count (lines_of rest)) + total (drop p.count (lines_of rest)) =
-          ap total (sym (take-append-drop p.count (lines_of rest))) ∙ total_append (take p.count (lines_of rest)) (drop p.count (lines_of rest)) in
-          omega (arith, r.2, s.1, w, total-lines rest, length-drop p.base u, pl.base-le)
+  pub written-sizes : (byte_sum new ≡ p.read.bytes) × (length new ≡ p.read.lines + end_lines p.end) × (token_sum new ≡ p.read.tokens + end_tokens p.end)
+  written-sizes = new_sizes p (planned_lines u lines p) pl.reads_as
 
-  -- the lines read again are those of the bytes from `base` to `new`
-  pub part-lines : (p.base ≤ p.new) × (lines_of (take (p.new - p.base) (drop p.base u)) ≡ take p.count (lines_of (drop p.base u)))
-  part-lines = go R refl pl.reads_as
-    where
-      go : (x : Reading) → R ≡ x → ReadsAs p x → (p.base ≤ p.new) × (lines_of (take (p.new - p.base) (drop p.base u)) ≡ take p.count (lines_of (drop p.base u)))
-      go (halts es h) e r = absurd r
-      go (reads es z) e r =
-          let rest : List ℕ = drop p.base u in
-          let s = read-sizes barge_line (state_from lines p.i) (take p.count (lines_of rest)) es z e in
-          let n : p.new - p.base ≡ total (take p.count (lines_of rest)) = omega (arith, r.2, s.1) in
-          (omega (arith, r.2), ap (λ (n : ℕ). lines_of (take n rest)) n ∙ first-lines rest p.count)
+  joined : (l moved words : List ℕ) (at tail : ℕ) {l₁ l₂ : List ℕ} → tail ≡ at + length words → l₁ ≡ sets l tail moved → l₂ ≡ sets l₁ at words → l₂ ≡ sets l at (words ++ moved)
+  joined l moved words at tail size e f = f ∙ ap (λ (y : List ℕ). sets y at words) (e ∙ ap (λ (i : ℕ). sets l i moved) size) ∙ sets_before words moved l at
 
-  -- at least as many records are written as lines are read
-  pub counts : (p.count ≤ p.lines) × (p.read ≤ p.tokens)
-  counts = go R refl pl.reads_as
-    where
-      go : (x : Reading) → R ≡ x → ReadsAs p x → (p.count ≤ p.lines) × (p.read ≤ p.tokens)
-      go (halts es h) e r = absurd r
-      go (reads es z) e r = by p.ends r.3 r.4
-        where
-          by : (b : Bool) → p.lines ≡ length (new_lines b (reads es z)) → p.tokens ≡ token_sum (new_lines b (reads es z)) → (p.count ≤ p.lines) × (p.read ≤ p.tokens)
-          by true l t = (omega (arith, r.0, l, length-append es (end_entry z ∷ [])), omega (arith, r.1, t, token_sum_append es (end_entry z ∷ [])))
-          by false l t = (omega (arith, r.0, l), omega (arith, r.1, t))
+  -- by the code's moves and writes: a buffer is l₁ after the move, l₂ under the sink and l₃ in the end; the lines are read from the state z
+  module _ {to : Counts} {z : State} (to-is : to ≡ moved_to p) (from : z ≡ state_from lines p.begin.lines) where
+    pub lines-written : {l₁ l₂ l₃ : List ℕ} → l₁ ≡ sets lines (line_size * to.lines) (moved_lines p.kept.bytes to.bytes p.kept.tokens to.tokens lines p.kept.lines (m + 1 - p.kept.lines))
+        → l₂ ≡ l₁ → l₃ ≡ sets l₂ (line_size * p.begin.lines) (line_records p.begin.bytes p.begin.tokens (new_lines p.end (reread u z p)))
+        → l₃ ≡ sets lines (line_size * p.begin.lines) (line_tail u lines m p)
+    lines-written e whole f =
+        let words : List ℕ = line_records p.begin.bytes p.begin.tokens new in
+        let size : line_size * (moved_to p).lines ≡ line_size * p.begin.lines + length words = omega (arith, length_line_records p.begin.bytes p.begin.tokens new, written-sizes.1) in
+        joined lines _ words (line_size * p.begin.lines) (line_size * (moved_to p).lines) size (rw to-is at e) (rw (whole, from) at f)
 
-  -- what the plan's sums and casts need
-  pub bounds : {lines_len tokens_len : ℕ} → Roomy m k lines_len tokens_len p → length u ≤ 1_048_576 → Bounds m k p
-  bounds r small =
-      record {
-        few-lines = pl.m-le;
-        i = omega (arith, pl.i-le, pl.m-le);
-        j = pl.j-le;
-        lines = pl.lines-le;
-        count = omega (arith, counts.0, pl.lines-le);
-        from = pl.from_le;
-        few-tokens = pl.k-le;
-        tokens = omega (arith, r.few);
-        read = omega (arith, r.few, counts.1);
-        old = pl.old-le;
-        new = omega (arith, new-le, small);
-      }
-
-  -- room for the lines read again
-  pub room-from : (lines_len tokens_len : ℕ) → Roomy m k lines_len tokens_len p → RoomFrom R p.i p.first lines_len tokens_len
-  room-from lines_len tokens_len r = go R refl pl.reads_as
-    where
-      go : (x : Reading) → R ≡ x → ReadsAs p x → RoomFrom x p.i p.first lines_len tokens_len
-      go (halts es h) e x = absurd x
-      go (reads es z) e x =
-          (omega (arith, r.line-room, counts.0, x.0), omega (arith, r.token-room, counts.1, x.1))
-
-  pub few-from : {x : Reading} {lines_len tokens_len : ℕ} → x ≡ R → Roomy m k lines_len tokens_len p → FewFrom x p.first
-  few-from {x} e r = rw e (go R pl.reads_as)
-    where
-      go : (y : Reading) → ReadsAs p y → FewFrom y p.first
-      go (halts es h) q = absurd q
-      go (reads es z) q = omega (arith, r.few, counts.1, q.1)
-
-  -- and for the end, where the plan ends there
-  pub room-end : (lines_len tokens_len : ℕ) → Roomy m k lines_len tokens_len p → (z : State) → Reaches R z → (levels : ℕ) → length z.widths ≡ levels → p.ends ≡ true
-      → (line_size * (p.i + p.count) + line_size ≤ lines_len) × (token_size * (p.first + p.read + levels) ≤ tokens_len)
-  unfolding token_sum
-  room-end lines_len tokens_len r z h levels hl en = go R refl pl.reads_as h
-    where
-      go : (x : Reading) → R ≡ x → ReadsAs p x → Reaches x z → (line_size * (p.i + p.count) + line_size ≤ lines_len) × (token_size * (p.first + p.read + levels) ≤ tokens_len)
-      go (halts es y) e x q = absurd x
-      go (reads es y) e x q =
-          let l : p.lines ≡ length (with_end es y) = x.3 ∙ ap (λ (b : Bool). length (new_lines b (reads es y))) en in
-          let t : p.tokens ≡ token_sum (with_end es y) = x.4 ∙ ap (λ (b : Bool). token_sum (new_lines b (reads es y))) en in
-          let d : length (end_entry y).tokens ≡ length y.widths = length-replicate (length y.widths) (token_at 91 0 0) in
-          let v : length y.widths ≡ levels = ap (λ (w : State). length w.widths) (sym q) ∙ hl in
-          (omega (arith, r.line-room, x.0, l, length-append es (end_entry y ∷ [])), omega (arith, r.token-room, x.1, t, token_sum_append es (end_entry y ∷ []), d, v))
-
-  -- The line words: the moved tail stands, then what was read, then the end.
-  module _ (l₁ l₂ l₃ : List ℕ) (z : State) (hz : Reaches R z) where
-    pub lines-put : l₂ ≡ sets l₁ (line_size * p.i) (line_records p.base p.first (lines_read R))
-        → l₃ ≡ put_if p.ends l₂ (line_size * (p.i + p.count)) (line_record p.new (p.first + p.read) z)
-        → l₃ ≡ sets l₁ (line_size * p.i) (line_records p.base p.first (written u lines p))
-    unfolding lines_read
-    lines-put e2 e3 = go R pl.reads_as hz e2 p.ends refl e3
-      where
-        go : (x : Reading) → ReadsAs p x → Reaches x z → l₂ ≡ sets l₁ (line_size * p.i) (line_records p.base p.first (lines_read x)) → (b : Bool) → p.ends ≡ b
-            → l₃ ≡ put_if b l₂ (line_size * (p.i + p.count)) (line_record p.new (p.first + p.read) z) → l₃ ≡ sets l₁ (line_size * p.i) (line_records p.base p.first (new_lines b x))
-        go (halts es y) x q f b eb g = absurd x
-        go (reads es y) x q f false eb g = g ∙ f
-        go (reads es y) x q f true eb g =
-            more-lines true p.base p.i p.first es (end_entry y) p.count p.new (p.first + p.read) x.0 x.2 (ap (λ (n : ℕ). p.first + n) x.1) l₁ l₂ l₃ f
-            (g ∙ ap (λ (s : State). sets l₂ (line_size * (p.i + p.count)) (line_record p.new (p.first + p.read) s)) q)
-
-    pub tokens-put : (levels : ℕ) → length z.widths ≡ levels → l₂ ≡ sets l₁ (token_size * p.first) (token_records p.base (p.i + 1) (lines_read R))
-        → l₃ ≡ put_if p.ends l₂ (token_size * (p.first + p.read)) (token_words p.new (p.i + p.count + 1) (dedents levels))
-        → l₃ ≡ sets l₁ (token_size * p.first) (token_records p.base (p.i + 1) (written u lines p))
-    unfolding lines_read
-    tokens-put levels hl e2 e3 = go R pl.reads_as hz e2 p.ends refl e3
-      where
-        go : (x : Reading) → ReadsAs p x → Reaches x z → l₂ ≡ sets l₁ (token_size * p.first) (token_records p.base (p.i + 1) (lines_read x)) → (b : Bool) → p.ends ≡ b
-            → l₃ ≡ put_if b l₂ (token_size * (p.first + p.read)) (token_words p.new (p.i + p.count + 1) (dedents levels)) → l₃ ≡ sets l₁ (token_size * p.first) (token_records p.base (p.i + 1) (new_lines b x))
-        go (halts es y) x q f b eb g = absurd x
-        go (reads es y) x q f false eb g = g ∙ f
-        go (reads es y) x q f true eb g =
-            more-tokens true p.base p.i p.first es (end_entry y) p.count p.new (p.first + p.read) x.0 x.2 (ap (λ (n : ℕ). p.first + n) x.1) l₁ l₂ l₃ f
-            (g ∙ ap (λ (n : ℕ). sets l₂ (token_size * (p.first + p.read)) (token_words p.new (p.i + p.count + 1) (dedents n))) (sym hl ∙ ap (λ (s : State). length s.widths) q))
-
-  -- how many records that is
-  pub written-sizes : (p.lines ≡ length (written u lines p)) × (p.tokens ≡ token_sum (written u lines p))
-  written-sizes = go R pl.reads_as
-    where
-      go : (x : Reading) → ReadsAs p x → (p.lines ≡ length (new_lines p.ends x)) × (p.tokens ≡ token_sum (new_lines p.ends x))
-      go (halts es y) x = absurd x
-      go (reads es y) x = (x.3, x.4)
-
-  -- written before the moved tail
-  pub lines-joined : (l l₁ l₃ moved : List ℕ) → l₁ ≡ sets l (line_size * (p.i + p.lines)) moved → l₃ ≡ sets l₁ (line_size * p.i) (line_records p.base p.first (written u lines p))
-      → l₃ ≡ sets l (line_size * p.i) (line_records p.base p.first (written u lines p) ++ moved)
-  lines-joined l l₁ l₃ moved e f =
-      let new : List ℕ = line_records p.base p.first (written u lines p) in
-      let at : line_size * (p.i + p.lines) ≡ line_size * p.i + length new = omega (arith, length_line_records p.base p.first (written u lines p), written-sizes.0) in
-      f ∙ ap (λ (x : List ℕ). sets x (line_size * p.i) new) (e ∙ ap (λ (n : ℕ). sets l n moved) at) ∙ sets_before new moved l (line_size * p.i)
-
-  pub tokens-joined : (l l₁ l₃ moved : List ℕ) → l₁ ≡ sets l (token_size * (p.first + p.tokens)) moved → l₃ ≡ sets l₁ (token_size * p.first) (token_records p.base (p.i + 1) (written u lines p))
-      → l₃ ≡ sets l (token_size * p.first) (token_records p.base (p.i + 1) (written u lines p) ++ moved)
-  tokens-joined l l₁ l₃ moved e f =
-      let new : List ℕ = token_records p.base (p.i + 1) (written u lines p) in
-      let at : token_size * (p.first + p.tokens) ≡ token_size * p.first + length new = omega (arith, length_token_records p.base (p.i + 1) (written u lines p), written-sizes.1) in
-      f ∙ ap (λ (x : List ℕ). sets x (token_size * p.first) new) (e ∙ ap (λ (n : ℕ). sets l n moved) at) ∙ sets_before new moved l (token_size * p.first)
-
-  -- room as the code has it, after the moves
-  pub room_moved : {x : Reading} {nl nt ll tl : ℕ} → x ≡ R → nl ≡ ll → nt ≡ tl → Roomy m k ll tl p → RoomFrom x p.i p.first nl nt
-  room_moved {ll = ll} {tl = tl} e el et r = rw (e, el, et) (room-from ll tl r)
-
-  -- the same with the code's state and its widths
-  module _ {s : LineState.State} {ws : List ℕ} (h : Reached R s ws) where
-    levels-are : length (take s.levels ws) ≡ s.levels
-    levels-are = length-take-le s.levels ws (omega arith)
-
-    pub end-room : {nl nt ll tl : ℕ} → nl ≡ ll → nt ≡ tl → Roomy m k ll tl p → p.ends ≡ true
-        → (line_size * (p.i + p.count) + line_size ≤ nl) × (token_size * (p.first + p.read + s.levels) ≤ nt)
-    end-room {ll = ll} {tl = tl} el et r en =
-        let x = room-end ll tl r (state_of s ws) h.is s.levels levels-are en in
-        (omega (arith, x.0), omega (arith, x.1))
-
-    -- all the writes of the line words and of the token words
-    pub lines-written : {x : Reading} {l₁ l₂ l₃ : List ℕ} (l moved : List ℕ) → x ≡ R → l₁ ≡ sets l (line_size * (p.i + p.lines)) moved
-        → l₂ ≡ sets l₁ (line_size * p.i) (line_records p.base p.first (lines_read x))
-        → l₃ ≡ put_if p.ends l₂ (line_size * (p.i + p.count)) (line_record p.new (p.first + p.read) (state_of s ws))
-        → l₃ ≡ sets l (line_size * p.i) (line_records p.base p.first (written u lines p) ++ moved)
-    lines-written {l₁ = l₁} {l₂ = l₂} {l₃ = l₃} l moved e e1 e2 e3 =
-        lines-joined l l₁ l₃ moved e1 (lines-put l₁ l₂ l₃ (state_of s ws) h.is (e2 ∙ ap (λ (r : Reading). sets l₁ (line_size * p.i) (line_records p.base p.first (lines_read r))) e) e3)
-
-    pub tokens-written : {x : Reading} {l₁ l₂ l₃ : List ℕ} (l moved : List ℕ) → x ≡ R → l₁ ≡ sets l (token_size * (p.first + p.tokens)) moved
-        → l₂ ≡ sets l₁ (token_size * p.first) (token_records p.base (p.i + 1) (lines_read x))
-        → l₃ ≡ put_if p.ends l₂ (token_size * (p.first + p.read)) (token_words p.new (p.i + p.count + 1) (dedents s.levels))
-        → l₃ ≡ sets l (token_size * p.first) (token_records p.base (p.i + 1) (written u lines p) ++ moved)
-    tokens-written {l₁ = l₁} {l₂ = l₂} {l₃ = l₃} l moved e e1 e2 e3 =
-        tokens-joined l l₁ l₃ moved e1
-        (tokens-put l₁ l₂ l₃ (state_of s ws) h.is s.levels levels-are (e2 ∙ ap (λ (r : Reading). sets l₁ (token_size * p.first) (token_records p.base (p.i + 1) (lines_read r))) e) e3)
+    pub tokens-written : (tokens : List ℕ) {l₁ l₂ l₃ : List ℕ} → l₁ ≡ sets tokens (token_size * to.tokens) (moved_tokens p.kept.bytes to.bytes (p.kept.lines + 1) (to.lines + 1) tokens p.kept.tokens (k - p.kept.tokens))
+        → l₂ ≡ l₁ → l₃ ≡ sets l₂ (token_size * p.begin.tokens) (token_records p.begin.bytes (p.begin.lines + 1) (new_lines p.end (reread u z p)))
+        → l₃ ≡ sets tokens (token_size * p.begin.tokens) (token_tail u lines tokens k p)
+    tokens-written tokens e whole f =
+        let words : List ℕ = token_records p.begin.bytes (p.begin.lines + 1) new in
+        let size : token_size * (moved_to p).tokens ≡ token_size * p.begin.tokens + length words = omega (arith, length_token_records p.begin.bytes (p.begin.lines + 1) new, written-sizes.2) in
+        joined tokens _ words (token_size * p.begin.tokens) (token_size * (moved_to p).tokens) size (rw to-is at e) (rw (whole, from) at f)

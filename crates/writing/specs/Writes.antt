@@ -5,27 +5,29 @@ use Rattle.rules.specs.Reading.{Entry}
 use Rattle.rules.specs.Records.{line_size, token_size, line_records, token_records}
 use Rattle.moving.specs.Moved.{moved_lines, moved_tokens}
 use Rattle.plans.specs.declared.Plan.{Plan}
-use Rattle.plans.specs.Plans.{new_lines, planned_lines}
+use Rattle.plans.specs.Plans.{moved_to, new_lines, planned_lines}
 
 -- the lines that a plan writes, for the edited text u and the old line words
 abbrev pub written : (u lines : List ℕ) → Plan → List Entry
-written u lines p = new_lines p.ends (planned_lines u lines p)
+written u lines p = new_lines p.end (planned_lines u lines p)
 
--- their line records, and the old ones from record j on, moved
+-- their line records, and the old ones of the kept tail, moved
 abbrev pub line_tail : (u lines : List ℕ) (m : ℕ) → Plan → List ℕ
 line_tail u lines m p =
-    line_records p.base p.first (written u lines p)
-    ++ moved_lines p.old p.new p.from (p.first + p.tokens) lines p.j (m + 1 - p.j)
+    let to = moved_to p in
+    line_records p.begin.bytes p.begin.tokens (written u lines p)
+    ++ moved_lines p.kept.bytes to.bytes p.kept.tokens to.tokens lines p.kept.lines (m + 1 - p.kept.lines)
 
--- their token records, and the old ones from token `from` on, moved
+-- their token records, and the old ones of the kept tail, moved
 abbrev pub token_tail : (u lines tokens : List ℕ) (k : ℕ) → Plan → List ℕ
 token_tail u lines tokens k p =
-    token_records p.base (p.i + 1) (written u lines p)
-    ++ moved_tokens p.old p.new (p.j + 1) (p.i + p.lines + 1) tokens p.from (k - p.from)
+    let to = moved_to p in
+    token_records p.begin.bytes (p.begin.lines + 1) (written u lines p)
+    ++ moved_tokens p.kept.bytes to.bytes (p.kept.lines + 1) (to.lines + 1) tokens p.kept.tokens (k - p.kept.tokens)
 
 -- all the words, those before the first written one included
 abbrev pub written_lines : (u lines : List ℕ) (m : ℕ) → Plan → List ℕ
-written_lines u lines m p = take (line_size * p.i) lines ++ line_tail u lines m p
+written_lines u lines m p = take (line_size * p.begin.lines) lines ++ line_tail u lines m p
 
 abbrev pub written_tokens : (u lines tokens : List ℕ) (k : ℕ) → Plan → List ℕ
-written_tokens u lines tokens k p = take (token_size * p.first) tokens ++ token_tail u lines tokens k p
+written_tokens u lines tokens k p = take (token_size * p.begin.tokens) tokens ++ token_tail u lines tokens k p

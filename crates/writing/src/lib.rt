@@ -1,31 +1,44 @@
 // The records of an accepted edit, written by its plan.
 #![tactic(auto)]
 
-ghost use Rattle.std.specs.Prelude.{◌≡◌, true, ◌+◌, ◌-◌, ◌*◌, ◌≤◌, length};
+ghost use Rattle.std.specs.Prelude.{◌≡◌, ◌+◌, ◌-◌, ◌*◌, ◌≤◌, length};
 ghost use Rattle.std.proofs.lemmas.List.Edits.{sets};
-ghost use Rattle.laws.specs.Puts.{put_if};
-ghost use Rattle.rules.specs.Line.{dedents};
 ghost use Rattle.rules.specs.Limits.{max_levels};
-ghost use Rattle.rules.specs.Records.{line_size, token_size, line_record, token_words};
-ghost use Rattle.records.specs.States.{state_of};
-ghost use Rattle.plans.specs.Plans.{Planned, Roomy};
+ghost use Rattle.rules.specs.Records.{line_size, token_size, line_records, token_records};
+ghost use Rattle.plans.specs.Plans.{moved_to, reread, ReadsAs, new_lines, Planned, Roomy};
 ghost use Rattle.writing.specs.Writes.{line_tail, token_tail};
 
-// The end's record and its Dedents, where the plan ends there.
-fn put_end(lines: &mut [u32], tokens: &mut [u32], p: plans::Plan, s: records::State, widths: &[u32])
-    requires widths_len { (length widths.now ≡ max_levels) × (s.levels ≤ max_levels) }
-    requires i_bound { (p.i ≤ 1_048_576) × ((p.count ≤ 1_048_577) × ((p.new ≤ 1_048_576) × (p.first + p.read ≤ 2_097_152))) }
-    requires line_size_in_bounds { p.ends ≡ true → (line_size * (p.i + p.count) + line_size ≤ length lines.old) × (token_size * (p.first + p.read + s.levels) ≤ length tokens.old) }
-    ensures lines_after { lines.new ≡ put_if p.ends lines.old (line_size * (p.i + p.count)) (line_record p.new (p.first + p.read) (state_of s widths.now)) }
-    ensures tokens_after { tokens.new ≡ put_if p.ends tokens.old (token_size * (p.first + p.read)) (token_words p.new (p.i + p.count + 1) (dedents s.levels)) }
+use plans::Plan;
+use records::{Place, Sink, State, Written};
+use tables::Tables;
+
+// The lines of the edited text that a plan reads again, from the state before them, and the end where the plan writes it anew.
+fn write_lines<S: Sink>(edited: &[u8], lines: &mut S, tokens: &mut S, p: Plan, state: &mut State)
+    requires small { let to = moved_to p in (length edited.now ≤ 1_048_576) × ((to.bytes ≤ length edited.now) × ((to.lines ≤ 4_194_304) × (to.tokens ≤ 3_000_000))) }
+    requires state_bound { (p.begin.lines ≤ p.begin.bytes) × ((state.old.depth ≤ p.begin.bytes) × (length state.old.widths ≤ max_levels)) }
+    requires reads_as { ReadsAs p (reread edited.now state.old p) }
+    requires room { let to = moved_to p in S.fits lines.old (line_size * to.lines) × S.fits tokens.old (token_size * to.tokens) }
+    ensures lines_taken { S.takes lines.old lines.new (line_size * p.begin.lines) (line_records p.begin.bytes p.begin.tokens (new_lines p.end (reread edited.now state.old p))) }
+    ensures tokens_taken { S.takes tokens.old tokens.new (token_size * p.begin.tokens) (token_records p.begin.bytes (p.begin.lines + 1) (new_lines p.end (reread edited.now state.old p))) }
 {
-    let place = records::Place {
-        write: p.ends,
-        line: p.i + p.count,
-        first: p.first + p.read,
-        start: p.new as u32,
+    let tables = Tables::new();
+    let limits = refusals::barge_limits().line();
+    let size = p.begin.bytes + p.read.bytes;
+    let place = Place {
+        line: p.begin.lines,
+        first: p.begin.tokens,
+        start: p.begin.bytes as u32,
     };
-    lines::put_end(lines, tokens, place, s, widths);
+    let part = &edited[p.begin.bytes..size];
+    let _ = rereading::read_to_end(&tables, part, lines, tokens, place, limits, state);
+    if p.end.is_some() {
+        let end = Place {
+            line: p.begin.lines + p.read.lines,
+            first: p.begin.tokens + p.read.tokens,
+            start: size as u32,
+        };
+        lines::put_end(lines, tokens, end, state);
+    }
 }
 
 // The kept records are moved, and the lines read again are written before them.
@@ -35,55 +48,37 @@ pub fn write_records(
     tokens: &mut [u32],
     m: usize,
     k: usize,
-    p: plans::Plan,
+    p: Plan,
 )
     requires edited_len_bound { (length edited.now ≤ 1_048_576) × ((line_size * (m + 1) ≤ length lines.old) × (token_size * k ≤ length tokens.old)) }
     requires planned { Planned edited.now lines.old m k p }
     requires roomy { Roomy m k (length lines.old) (length tokens.old) p }
-    ensures lines_after { lines.new ≡ sets lines.old (line_size * p.i) (line_tail edited.now lines.old m p) }
-    ensures tokens_after { tokens.new ≡ sets tokens.old (token_size * p.first) (token_tail edited.now lines.old tokens.old k p) }
+    ensures lines_after { lines.new ≡ sets lines.old (line_size * p.begin.lines) (line_tail edited.now lines.old m p) }
+    ensures tokens_after { tokens.new ≡ sets tokens.old (token_size * p.begin.tokens) (token_tail edited.now lines.old tokens.old k p) }
 {
-    let mut widths: [u32; records::LEVELS] = [0; records::LEVELS];
-    let s = records::load_state(lines, p.i, &mut widths);
+    let to = p.moved();
+    let mut state = records::load_state(lines, p.begin.lines);
     moving::move_tokens(
         tokens,
-        p.from,
-        p.first + p.tokens,
-        k - p.from,
-        p.old as u32,
-        p.new as u32,
-        p.j as u32 + 1,
-        (p.i + p.lines) as u32 + 1,
+        p.kept.tokens,
+        to.tokens,
+        k - p.kept.tokens,
+        p.kept.bytes as u32,
+        to.bytes as u32,
+        p.kept.lines as u32 + 1,
+        to.lines as u32 + 1,
     );
     moving::move_lines(
         lines,
-        p.j,
-        p.i + p.lines,
-        m + 1 - p.j,
-        p.old as u32,
-        p.new as u32,
-        p.from as u32,
-        (p.first + p.tokens) as u32,
+        p.kept.lines,
+        to.lines,
+        m + 1 - p.kept.lines,
+        p.kept.bytes as u32,
+        to.bytes as u32,
+        p.kept.tokens as u32,
+        to.tokens as u32,
     );
-    let tables = tables::tables();
-    let limits = refusals::barge_limits();
-    let base = p.base;
-    let end = p.new;
-    let place = records::Place {
-        write: true,
-        line: p.i,
-        first: p.first,
-        start: base as u32,
-    };
-    let z = rereading::rewrite_lines(
-        &tables,
-        &edited[base..end],
-        lines,
-        tokens,
-        place,
-        limits.line(),
-        &mut widths,
-        s,
-    );
-    put_end(lines, tokens, p, z, &widths);
+    let mut line_sink = Written::new(lines);
+    let mut token_sink = Written::new(tokens);
+    write_lines(edited, &mut line_sink, &mut token_sink, p, &mut state);
 }

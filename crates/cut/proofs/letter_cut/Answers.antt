@@ -18,7 +18,7 @@ unfolding letter_cut
 returns-then-begins_literal c =
     let a = c.args in
     let b : begins (ascii "b'") (drop a.at a.line.now) ≡ true = sym c.begins_literal.ensures ∙ c.if-begins_literal.true in
-    rw b (c.scan_ascii_byte_literal.ensures ∙ named-plain a.named (byte_cut (drop a.at a.line.now)) (byte-plain (drop a.at a.line.now)))
+    rw b (c.token.ensures ∙ c.scan_ascii_byte_literal.ensures ∙ named-plain a.named (byte_cut (drop a.at a.line.now)) (byte-plain (drop a.at a.line.now)))
 
 pub returns : goal.returns
 unfolding letter_cut

@@ -8,7 +8,7 @@ use Rattle.cut.proofs.word_cut.Goals as goal
 pub kind_of_word-requires : goal.kind_of_word-requires
 kind_of_word-requires c =
     let end = c.run_end-end.ensures in
-    record { tables_value = c.requires.tables_value; at_le_end = (omega (arith, end), omega (arith, end, run_inside (reaches 0) c.args.line.now c.args.at c.requires.at_in_bounds)) }
+    (omega (arith, end), omega (arith, end, run_inside (reaches 0) c.args.line.now c.args.at c.requires))
 
 pub overflow_sub-result : goal.overflow_sub-result
 overflow_sub-result c = omega (arith, c.run_end-end.ensures)

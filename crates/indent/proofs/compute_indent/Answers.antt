@@ -3,6 +3,7 @@ use mathlib.Core.Path.{sym}
 use native.Mathlib.Omega.{arith}
 use Rattle.indent.proofs.Spaces.{spaces_le, width-behind}
 use Rattle.indent.proofs.Indents.{width_space, width_tab, width-other, width-end}
+use Rattle.indent.proofs.compute_indent.Goals.{in-32, in-9}
 use Rattle.indent.proofs.compute_indent.Goals as goal
 
 pub overflow_cast-width : goal.overflow_cast-width
@@ -12,19 +13,16 @@ pub loop-i-init : goal.loop-i-init
 loop-i-init c =
     (spaces_le c.args.line.now c.args.spaces c.requires.1, omega arith, sym (width-behind c.args.line.now c.args.spaces c.requires.1))
 
-pub loop-i-preserved-then-b-eq32 : goal.loop-i-preserved-then-b-eq32
-loop-i-preserved-then-b-eq32 c =
-    let e = width_space c.args.line.now c.loop-i.i (omega arith) c.if-b-eq32.true in
-    omega arith
-
-pub returns-then-b-ne9 : goal.returns-then-b-ne9
-returns-then-b-ne9 c =
-    let e = width-other c.args.line.now c.loop-i.i (omega arith) c.if-b-eq32.false c.if-b-ne9.true in
-    omega arith
-
 pub loop-i-preserved : goal.loop-i-preserved
 loop-i-preserved c =
-    let e = width_tab c.args.line.now c.loop-i.i (omega arith) c.if-b-eq32.false c.if-b-ne9.false in
+    elim c.match-line-i.branch [
+      | in-32 w ↦ let e = width_space c.args.line.now c.loop-i.i (omega arith) w.in-32.is in omega arith
+      | in-9 w ↦ let e = width_tab c.args.line.now c.loop-i.i (omega arith) (λ h. omega arith) w.in-9.is in omega arith
+    ]
+
+pub returns-in_default : goal.returns-in_default
+returns-in_default c =
+    let e = width-other c.args.line.now c.loop-i.i (omega arith) (λ h. omega arith) (λ h. omega arith) in
     omega arith
 
 pub returns : goal.returns

@@ -2,7 +2,8 @@
 use Prim.Native.Nat.{◌+◌}
 use mathlib.Core.Path.{sym, ◌∙◌}
 use native.Mathlib.Omega.{arith}
-use Rattle.literals.proofs.Steps.{content-end, content-empty, content-escape, content_control, content-printed, content_delete, content_foreign}
+use Rattle.literals.proofs.Steps.{content-end, content-empty, content-escape, content_control, content-printed, content_foreign}
+use Rattle.literals.proofs.content_cut.Goals.{in-127-1, in_default+then-this-lt32}
 use Rattle.literals.proofs.content_cut.Goals as goal
 
 pub returns-then-line-at : goal.returns-then-line-at
@@ -10,32 +11,31 @@ returns-then-line-at c =
     let a = c.args in
     c.line_ends.ensures ∙ sym (content-end a.line.now (a.at + 2) (omega arith))
 
-pub returns-then-b-eq39 : goal.returns-then-b-eq39
-returns-then-b-eq39 c =
+pub returns-in-39 : goal.returns-in-39
+returns-in-39 c =
     let a = c.args in
-    c.failing_at.ensures ∙ sym (content-empty a.line.now (a.at + 2) (omega arith) c.if-b-eq39.true)
+    c.failing_at.ensures ∙ sym (content-empty a.line.now (a.at + 2) (omega arith) c.in-39.is)
 
-pub returns-then-b-eq92 : goal.returns-then-b-eq92
-returns-then-b-eq92 c =
+pub returns-in-92 : goal.returns-in-92
+returns-in-92 c =
     let a = c.args in
-    c.escape_cut.ensures ∙ sym (content-escape a.line.now (a.at + 2) (omega arith) c.if-b-eq39.false (a.at + 3) (omega arith) c.if-b-eq92.true)
+    c.escape_cut.ensures ∙ sym (content-escape a.line.now (a.at + 2) (omega arith) (λ e. omega arith) (a.at + 3) (omega arith) c.in-92.is)
 
-pub returns-then-b-gt127 : goal.returns-then-b-gt127
-returns-then-b-gt127 c =
+pub returns-in-32-to-126 : goal.returns-in-32-to-126
+returns-in-32-to-126 c =
     let a = c.args in
-    c.finding_at.ensures ∙ sym (content_foreign a.line.now (a.at + 2) (omega arith) c.if-b-eq39.false c.if-b-eq92.false c.if-b-gt127.true)
+    c.closing_cut.ensures ∙ sym (content-printed a.line.now (a.at + 2) (omega arith) (λ e. omega arith) (λ e. omega arith) (a.at + 3) (omega arith) (omega arith) (omega arith))
 
-pub returns-then-b-lt32 : goal.returns-then-b-lt32
-returns-then-b-lt32 c =
+pub returns-in-0-to-127 : goal.returns-in-0-to-127
+returns-in-0-to-127 c =
     let a = c.args in
-    c.finding_at-then-b-lt32.ensures ∙ sym (content_control a.line.now (a.at + 2) (omega arith) c.if-b-eq39.false c.if-b-eq92.false c.if-b-lt32.true)
+    c.finding_at-in-0-to-127.ensures
+    ∙ sym (elim c.in-0-to-127-1.branch [
+      | in-127-1 w ↦ content_control a.line.now (a.at + 2) (omega arith) (λ e. omega arith) (λ e. omega arith) (λ h k. omega arith) (omega arith)
+      | in_default+then-this-lt32 w ↦ content_control a.line.now (a.at + 2) (omega arith) (λ e. omega arith) (λ e. omega arith) (λ h k. omega arith) (omega arith)
+    ])
 
-pub returns-then-b-eq127 : goal.returns-then-b-eq127
-returns-then-b-eq127 c =
+pub returns-in_default : goal.returns-in_default
+returns-in_default c =
     let a = c.args in
-    c.finding_at-then-b-eq127.ensures ∙ sym (content_delete a.line.now (a.at + 2) (omega arith) c.if-b-eq39.false c.if-b-eq92.false c.if-b-eq127.true)
-
-pub returns : goal.returns
-returns c =
-    let a = c.args in
-    c.closing_cut.ensures ∙ sym (content-printed a.line.now (a.at + 2) (omega arith) c.if-b-eq39.false c.if-b-eq92.false (a.at + 3) (omega arith) (omega arith) (omega arith))
+    c.finding_at.ensures ∙ sym (content_foreign a.line.now (a.at + 2) (omega arith) (λ e. omega arith) (λ e. omega arith) (omega arith))

@@ -7,4 +7,4 @@ use Rattle.literals.proofs.failing_at.Goals as goal
 pub returns : goal.returns
 returns c =
     let a = c.args in
-    ap (λ n. fails (failure a.detail 0 a.k n)) c.scalar_size-size.ensures
+    ap (λ n. fails (failure a.detail 0 a.k n)) c.scalar_size.ensures

@@ -6,4 +6,4 @@ use Rattle.literals.proofs.finding_at.Goals as goal
 pub returns : goal.returns
 returns c =
     let a = c.args in
-    λ i. fails (failure a.detail (c.scalar_value-found.ensures i) a.k (c.scalar_size-size.ensures i))
+    λ i. fails (failure a.detail (c.scalar_value.ensures i) a.k (c.scalar_size.ensures i))

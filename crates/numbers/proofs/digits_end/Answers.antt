@@ -11,17 +11,18 @@ use Rattle.numbers.proofs.digits_end.Goals as goal
 pub run_end-requires : goal.run_end-requires
 run_end-requires c =
     let a = c.args in
-    let room = hex-room (drop a.at a.line.now) (sym c.requires.at_in_bounds.1 ∙ c.if-hex.true) in record { tables_value = c.requires.tables_value; at_in_bounds = omega (arith, room, length-drop a.at a.line.now); which_bound = omega arith }
+    let room = hex-room (drop a.at a.line.now) (sym c.requires.1 ∙ c.if-hex.true) in
+    omega (arith, room, length-drop a.at a.line.now)
 
 pub returns-then-hex : goal.returns-then-hex
 returns-then-hex c =
-    omega (arith, c.run_end.ensures, hex-digits c.args.line.now c.args.at (sym c.requires.at_in_bounds.1 ∙ c.if-hex.true))
+    omega (arith, c.run_end.ensures, hex-digits c.args.line.now c.args.at (sym c.requires.1 ∙ c.if-hex.true))
 
 pub fraction_end-requires : goal.fraction_end-requires
 fraction_end-requires c =
-    record { tables_value = c.requires.tables_value; at_in_bounds = omega (arith, c.run_end-end.ensures, run_inside (reaches 2) c.args.line.now c.args.at c.requires.at_in_bounds.0) }
+    omega (arith, c.run_end-end.ensures, run_inside (reaches 2) c.args.line.now c.args.at c.requires.0)
 
 pub returns : goal.returns
 returns c =
     let r = c.run_end-end in
-    omega (arith, c.fraction_end.ensures, decimal-digits c.args.line.now c.args.at (sym c.requires.at_in_bounds.1 ∙ c.if-hex.false) r.result r.ensures)
+    omega (arith, c.fraction_end.ensures, decimal-digits c.args.line.now c.args.at (sym c.requires.1 ∙ c.if-hex.false) r.result r.ensures)

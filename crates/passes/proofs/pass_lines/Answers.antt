@@ -1,56 +1,39 @@
--- `passes::pass_lines` meets its contract: all lines are read, then the end is written.
-use mathlib.Core.Path.{◌∙◌}
-use native.Mathlib.Omega.{arith}
-use Rattle.refusals.specs.Limits.{line_limits_of}
-use Rattle.passes.proofs.Lines.{end_of, end-small, may-pass, end-room, halted-pass, end-pass}
+-- `passes::pass_lines` meets its contract: all lines are read, then the end is put.
+use Rattle.std.proofs.Common.{arith}
+use Rattle.std.proofs.lemmas.Result.{err_from_is_err_and}
+use Rattle.rereading.proofs.Rooms.{few-zero}
+use Rattle.passes.proofs.Lines.{room_first, halted_pass, end_small, end_room, end_counts, end_taken}
 use Rattle.passes.proofs.pass_lines.Goals as goal
 
-pub read_to_end-requires-clause-may_write : goal.read_to_end-requires-clause-may_write
-read_to_end-requires-clause-may_write c =
-    let a = c.args in
-    let r = c.requires in
-    may-pass (line_limits_of a.limits) a.limits.few a.text.now r.text_len_bound.0 a.write a.lines.now a.tokens.now r.room_in
+pub read_to_end-requires-clause-few : goal.read_to_end-requires-clause-few
+read_to_end-requires-clause-few g c = few-zero _
 
-pub put_end-requires-clause-start_bound : goal.put_end-requires-clause-start_bound
-put_end-requires-clause-start_bound c =
-    let a = c.args in
-    let r = c.requires in
-    let e = c.in-Ends in
-    let end = end_of c.read_to_end.new.widths e.m e.k e.s e.ensures.end_is (c.read_to_end.auto.widths ∙ r.text_len_bound.1) in
-    let small = end-small (line_limits_of a.limits) a.limits.few a.text.now r.text_len_bound.0 end in
-    (r.text_len_bound.0, (omega (arith, small), omega (arith, small)))
+pub read_to_end-requires-clause-room : goal.read_to_end-requires-clause-room
+read_to_end-requires-clause-room g c = room_first _ c.args.limits.few _ c.requires.text_bound c.initial-state.ensures g.S.Sink.laws c.args.lines.now c.args.tokens.now c.requires.room
 
-pub put_end-requires-clause-line_size_in_bounds : goal.put_end-requires-clause-line_size_in_bounds
-put_end-requires-clause-line_size_in_bounds c w =
-    let a = c.args in
-    let r = c.requires in
-    let e = c.in-Ends in
-    let end = end_of c.read_to_end.new.widths e.m e.k e.s e.ensures.end_is (c.read_to_end.auto.widths ∙ r.text_len_bound.1) in
-    let room = end-room (line_limits_of a.limits) a.limits.few a.text.now r.text_len_bound.0 a.write a.lines.now a.tokens.now r.room_in end w in
-    (omega (arith, c.read_to_end.auto.lines, room.0), omega (arith, c.read_to_end.auto.tokens, room.1))
+pub returns-in_err-read-clause-value : goal.returns-in_err-read-clause-value
+returns-in_err-read-clause-value g c =
+    let p = err_from_is_err_and c.from_residual.result c.from_residual.ensures.1 in
+    rw (p.1, p.2) (halted_pass _ c.args.limits.few _ c.requires.text_bound c.initial-state.ensures c.in_err-read.ensures.end_is)
+
+pub put_end-requires-clause-end_bound : goal.put_end-requires-clause-end_bound
+put_end-requires-clause-end_bound g c =
+    let small = end_small _ c.args.limits.few _ c.requires.text_bound c.initial-state.ensures c.in_ok-read.ensures.end_is in
+    (c.requires.text_bound, (omega (arith, small), omega (arith, small)))
+
+pub put_end-requires-clause-line_room : goal.put_end-requires-clause-line_room
+put_end-requires-clause-line_room g c = (end_room _ c.args.limits.few _ c.requires.text_bound c.initial-state.ensures g.S.Sink.laws c.args.lines.now c.args.tokens.now c.requires.room c.in_ok-read.ensures.end_is c.read_to_end.new.lines c.read_to_end.new.tokens c.in_ok-read.ensures.taken).0
+
+pub put_end-requires-clause-token_room : goal.put_end-requires-clause-token_room
+put_end-requires-clause-token_room g c = (end_room _ c.args.limits.few _ c.requires.text_bound c.initial-state.ensures g.S.Sink.laws c.args.lines.now c.args.tokens.now c.requires.room c.in_ok-read.ensures.end_is c.read_to_end.new.lines c.read_to_end.new.tokens c.in_ok-read.ensures.taken).1
 
 pub overflow_add-result : goal.overflow_add-result
-overflow_add-result c =
-    let a = c.args in
-    let r = c.requires in
-    let e = c.in-Ends in
-    let end = end_of c.read_to_end.new.widths e.m e.k e.s e.ensures.end_is (c.read_to_end.auto.widths ∙ r.text_len_bound.1) in
-    omega (arith, end-small (line_limits_of a.limits) a.limits.few a.text.now r.text_len_bound.0 end)
+overflow_add-result g c = omega (arith, c.levels.ensures.value, end_small _ c.args.limits.few _ c.requires.text_bound c.initial-state.ensures c.in_ok-read.ensures.end_is)
 
-pub returns-in-Ends : goal.returns-in-Ends
-returns-in-Ends c =
-    let a = c.args in
-    let r = c.requires in
-    let e = c.in-Ends in
-    let all = c.read_to_end in
-    let end = end_of all.new.widths e.m e.k e.s e.ensures.end_is (all.auto.widths ∙ r.text_len_bound.1) in
-    let met = end-pass (line_limits_of a.limits) a.limits.few a.text.now r.text_len_bound.0 a.write a.lines.now a.tokens.now r.room_in all.new.lines all.new.tokens all.ensures.lines_after all.ensures.tokens_after end _ _ c.put_end.ensures.lines_after c.put_end.ensures.tokens_after in
-    record { value = met.0; lines_after = met.1.0; tokens_after = met.1.1 }
+pub returns-clause-value : goal.returns-clause-value
+returns-clause-value g c = end_counts _ c.args.limits.few _ c.requires.text_bound c.initial-state.ensures c.in_ok-read.ensures.end_is c.levels.ensures.value
 
-pub returns-in-Refused : goal.returns-in-Refused
-returns-in-Refused c =
-    let a = c.args in
-    let r = c.requires in
-    let all = c.read_to_end in
-    let met = halted-pass (line_limits_of a.limits) a.limits.few a.text.now r.text_len_bound.0 a.write a.lines.now a.tokens.now r.room_in all.new.lines all.new.tokens all.ensures.lines_after all.ensures.tokens_after c.in-Refused.u c.in-Refused.ensures.end_is in
-    record { value = met.0; lines_after = met.1.0; tokens_after = met.1.1 }
+pub returns-clause-taken : goal.returns-clause-taken
+returns-clause-taken g c =
+    let e = c.in_ok-read.ensures in
+    end_taken _ c.args.limits.few _ c.requires.text_bound c.initial-state.ensures g.S.Sink.laws c.args.lines.now c.args.tokens.now c.requires.room e.end_is c.read_to_end.new.lines c.read_to_end.new.tokens e.taken c.put_end.ensures.line_taken c.put_end.ensures.tokens_taken

@@ -1,32 +1,14 @@
 -- `records::same_state` meets its contract.
-use mathlib.Core.Path.{◌≡◌, sym, ◌∙◌}
-use native.Mathlib.Omega.{arith}
-use lib.ListN.{length, take}
-use lib.Seq.{length-take-le}
-use Rattle.records.specs.States.{state_of}
-use Rattle.records.proofs.Words.{other-depth, other-arrow, other-levels, only-widths}
+use Rattle.std.proofs.Common.{ℕ, ◌+◌, ◌*◌, List, take, drop, ap, sym, ◌∙◌}
+use Rattle.rules.specs.Lists.{begins, same}
+use Rattle.rules.specs.Records.{line_size, state_words}
+use Rattle.rules.proofs.RecordLaws.{length_state_words}
+use Rattle.rules.proofs.BeginsLaws.{same-begins}
 use Rattle.records.proofs.same_state.Goals as goal
-
-pub returns-then-lines-at : goal.returns-then-lines-at
-returns-then-lines-at c =
-    let a = c.args in
-    sym (other-depth a.lines.now a.j c.requires.1.1.1 (state_of a.s a.widths.now) c.if-lines-at.true)
-
-pub returns-then-lines-at-2 : goal.returns-then-lines-at-2
-returns-then-lines-at-2 c =
-    let a = c.args in
-    sym (other-arrow a.lines.now a.j c.requires.1.1.1 (state_of a.s a.widths.now) c.if-lines-at.false c.if-lines-at-2.true)
-
-pub returns-then-lines-at-3 : goal.returns-then-lines-at-3
-returns-then-lines-at-3 c =
-    let p = c.requires in
-    let a = c.args in
-    let n : length (take a.s.levels a.widths.now) ≡ a.s.levels = length-take-le a.s.levels a.widths.now (omega (arith, p.0, p.1.0)) in
-    sym (other-levels a.lines.now a.j p.1.1.1 (state_of a.s a.widths.now) c.if-lines-at.false c.if-lines-at-2.false (λ e. c.if-lines-at-3.true (e ∙ n)))
 
 pub returns : goal.returns
 returns c =
-    let p = c.requires in
     let a = c.args in
-    let n : length (take a.s.levels a.widths.now) ≡ a.s.levels = length-take-le a.s.levels a.widths.now (omega (arith, p.0, p.1.0)) in
-    c.same_widths.ensures ∙ sym (only-widths a.lines.now a.j p.1.1.1 (state_of a.s a.widths.now) c.if-lines-at.false c.if-lines-at-2.false (c.if-lines-at-3.false ∙ sym n))
+    let z = state_words a.state.now in
+    c.same_words.ensures ∙ ap (λ (ws : List ℕ). begins ws (drop (line_size * a.j + 2) a.lines.now)) c.words.ensures
+    ∙ sym (ap (λ (n : ℕ). same (take n (drop (line_size * a.j + 2) a.lines.now)) z) (sym (length_state_words a.state.now)) ∙ same-begins z (drop (line_size * a.j + 2) a.lines.now))

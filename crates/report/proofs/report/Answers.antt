@@ -4,14 +4,14 @@ use borrow.Author.Rules.{rules}
 use Rattle.std.specs.Prelude.{Err}
 use Rattle.refusals.specs.declared.FailureRecord.{FailureRecord}
 use Rattle.refusals.specs.declared.Unread.TheVariants.{Fails}
-use Rattle.passes.proofs.Passes.{pass-refused}
+use Rattle.passes.proofs.Passes.{pass_refused}
 use Rattle.report.proofs.Reports.{opened, printable, clear-answer, failed-answer, other-answer}
 use Rattle.report.proofs.report.Goals as goal
 
 pub put_failure-requires : goal.put_failure-requires
 put_failure-requires c =
     let fails = c.in-Err-Fails in
-    printable c.args.text.now fails.f (pass-refused _ (Fails fails.f) (opened _ c.barge_limits.ensures (ap Err (sym fails.field-0-is) ∙ fails.ensures)))
+    printable c.args.text.now fails.f (pass_refused _ (Fails fails.f) (opened _ c.barge_limits.ensures (ap Err (sym fails.field-0-is) ∙ fails.ensures)))
 
 pub returns-in-Ok : goal.returns-in-Ok
 returns-in-Ok c =

@@ -1,4 +1,0 @@
-pub mod Tokens
-pub mod Cuts
-pub mod WholeLine
-pub mod LineReplies

@@ -1,0 +1,9 @@
+-- `tables::Tables::keyword_length` meets its contract.
+use Prim.Native.Nat.{ℕ, ◌*◌}
+use mathlib.Core.Path.{ap}
+use mathlib.Core.List.{List}
+use lib.ListN.{get_or}
+use Rattle.tables.proofs.Tables.keyword_length.Goals as goal
+
+pub returns : goal.returns
+returns c = ap (λ (k : List ℕ). get_or k (11 * c.args.row) 0) c.args.self.now.keywords_right
