@@ -1,10 +1,10 @@
 // The fields of a line of a recorded list, in the format of oracle/README.md, read one after the other.
-ghost use Rattle.std.specs.Prelude.{◌≡◌, ◌↔◌, ◌<◌, ◌^◌, ℕ, List, Ok, Some, None, IsTrue, IsOk, IsNone, IfOk, MatchOption, MatchResult, replicate};
+ghost use Rattle.std.specs.Prelude.{◌≡◌, ◌↔◌, ◌<◌, ◌^◌, ℕ, List, Ok, Some, None, IsTrue, IsOk, IsNone, IfOk, OnOk, Option, MatchOption, MatchResult, replicate};
 ghost use Rattle.std.specs.Fmt.{decimal};
 ghost use Rattle.std.specs.Str.{IsUtf8};
 ghost use Rattle.std.specs.Fn.{FnOnceReturnsAtMut};
-ghost use Rattle.replay.specs.Fields.{left, next_field, after_field};
-ghost use Rattle.replay.specs.Units.{SpellsBytes, SpellsAll};
+ghost use Rattle.replay.specs.Fields.{left, next_field, after_field, SpellsNumber, SpellsEach, SpellsGroup, SpellsFront, SpellsFrontGroup};
+ghost use Rattle.replay.specs.Units.{SpellsBytes, SpellsAll, SpellsRun, SpellsBuffer, SpellsDigest, PutsSpelled};
 
 use crate::Failure;
 use crate::digests::Digest;
@@ -14,6 +14,31 @@ use std::alloc::Global;
 
 // What a word of a reply holds before a call.
 pub const FILL: u64 = 0xAAAA_AAAA;
+
+// A word of a reply or of a buffer.
+trait Word: Copy {
+    // The number that it is.
+    ghost value: { Self → ℕ };
+
+    fn value(self) -> u64
+        ensures { result ≡ value self };
+}
+
+impl Word for u32 {
+    ghost value = { λ word. word };
+
+    fn value(self) -> u64 {
+        u64::from(self)
+    }
+}
+
+impl Word for u64 {
+    ghost value = { λ word. word };
+
+    fn value(self) -> u64 {
+        self
+    }
+}
 
 // What a call replies: how many words, at the front of all of them.
 #[derive(Clone, Copy, Debug, PartialEq, Eq)]
@@ -119,7 +144,9 @@ impl<'a> Fields<'a> {
     }
 
     // The numbers of a group.
-    pub fn numbers(&mut self, alloc: Global) -> Result<Vec<u64>, Failure> {
+    pub fn numbers(&mut self, alloc: Global) -> Result<Vec<u64>, Failure>
+        ensures { IfOk result (λ numbers. SpellsGroup SpellsNumber (left self.old) numbers.items (left self.new)) }
+    {
         let mut numbers = Vec::new(alloc);
         for _ in 0..self.number()? {
             numbers.push(self.number()?)?;
@@ -138,12 +165,18 @@ impl<'a> Fields<'a> {
     }
 
     // The bytes or words of the run that the next field spells, put behind the others.
-    pub fn run<T: Unit>(&mut self, units: &mut Vec<T>) -> Result<(), Failure> {
+    pub fn run<T: Unit>(&mut self, units: &mut Vec<T>) -> Result<(), Failure>
+        ensures spelled { OnOk result ((field : List ℕ) × (next_field (left self.old) ≡ Some field) × PutsSpelled (SpellsRun T.spells) field units.old.items units.new.items) }
+        ensures rest { left self.new ≡ after_field (left self.old) }
+    {
         put_run(self.next()?, units)
     }
 
     // The buffer that the next field spells, in runs with commas between.
-    fn buffer<T: Unit>(&mut self, alloc: Global) -> Result<Vec<T>, Failure> {
+    fn buffer<T: Unit>(&mut self, alloc: Global) -> Result<Vec<T>, Failure>
+        ensures spelled { IfOk result (λ units. (field : List ℕ) × (next_field (left self.old) ≡ Some field) × SpellsBuffer T.spells field units.items) }
+        ensures rest { left self.new ≡ after_field (left self.old) }
+    {
         let mut units = Vec::new(alloc);
         for run in self.next()?.split(',') {
             put_run(run, &mut units)?;
@@ -152,7 +185,9 @@ impl<'a> Fields<'a> {
     }
 
     // The buffers of a group.
-    pub fn buffers<T: Unit>(&mut self, alloc: Global) -> Result<Vec<Vec<T>>, Failure> {
+    pub fn buffers<T: Unit>(&mut self, alloc: Global) -> Result<Vec<Vec<T>>, Failure>
+        ensures { IfOk result (λ buffers. SpellsGroup (λ field units. SpellsBuffer T.spells field units.items) (left self.old) buffers.items (left self.new)) }
+    {
         let mut buffers = Vec::new(alloc);
         for _ in 0..self.number()? {
             buffers.push(self.buffer(alloc)?)?;
@@ -161,7 +196,10 @@ impl<'a> Fields<'a> {
     }
 
     // The next fields spell the digests of these buffers.
-    pub fn expect_digests<T: Unit>(&mut self, buffers: &[Vec<T>]) -> Result<(), Failure> {
+    pub fn expect_digests<T: Unit>(&mut self, buffers: &[Vec<T>]) -> Result<(), Failure>
+        ensures spelled { OnOk result (SpellsEach (λ field units. SpellsDigest T.bytes field units.items) (left self.old) buffers.now (left self.new)) }
+        ensures all_spelled { (after : Option (List ℕ)) → SpellsEach (λ field units. SpellsDigest T.bytes field units.items) (left self.old) buffers.now after → IsOk result }
+    {
         for buffer in buffers {
             self.expect_number(Digest::new().with(buffer.as_slice()).0)?;
         }
@@ -169,31 +207,37 @@ impl<'a> Fields<'a> {
     }
 
     // The next fields spell the first `count` of these; the others are as they were before the call.
-    fn expect_front<T: Copy + Into<u64>>(
-        &mut self,
-        values: &[T],
-        count: u64,
-    ) -> Result<(), Failure> {
-        let (front, others) = values
-            .split_at_checked(count as usize)
-            .ok_or(Failure::Differs)?;
-        for value in front {
-            self.expect_number((*value).into())?;
-        }
-        if others.iter().any(|value| (*value).into() != FILL) {
+    fn expect_front<T: Word>(&mut self, words: &[T], count: u64) -> Result<(), Failure>
+        ensures spelled { OnOk result (SpellsFront T.value (left self.old) count words.now (left self.new)) }
+        ensures all_spelled { (after : Option (List ℕ)) → SpellsFront T.value (left self.old) count words.now after → IsOk result }
+    {
+        let Some((front, others)) = words.split_at_checked(count as usize) else {
             return Err(Failure::Differs);
+        };
+        for word in front {
+            self.expect_number(word.value())?;
         }
-        Ok(())
+        if others.iter().all(|word| word.value() == FILL) {
+            Ok(())
+        } else {
+            Err(Failure::Differs)
+        }
     }
 
     // The next group spells the front of these words.
-    pub fn expect_words(&mut self, words: &[u32]) -> Result<(), Failure> {
+    pub fn expect_words(&mut self, words: &[u32]) -> Result<(), Failure>
+        ensures spelled { OnOk result ((count : ℕ) × SpellsFrontGroup (left self.old) count words.now (left self.new)) }
+        ensures all_spelled { (count : ℕ) (after : Option (List ℕ)) → SpellsFrontGroup (left self.old) count words.now after → IsOk result }
+    {
         let count = self.number()?;
         self.expect_front(words, count)
     }
 
     // The next group spells this reply.
-    pub fn expect_reply(&mut self, reply: &Reply) -> Result<(), Failure> {
+    pub fn expect_reply(&mut self, reply: &Reply) -> Result<(), Failure>
+        ensures spelled { OnOk result (SpellsFrontGroup (left self.old) reply.now.count reply.now.words (left self.new)) }
+        ensures all_spelled { (after : Option (List ℕ)) → SpellsFrontGroup (left self.old) reply.now.count reply.now.words after → IsOk result }
+    {
         self.expect_number(reply.count)?;
         self.expect_front(reply.words.as_slice(), reply.count)
     }

@@ -3,7 +3,7 @@ ghost use Rattle.std.specs.Prelude.{◌≡◌, ◌<◌, ℕ, List, [], ◌∷◌
 ghost use Rattle.std.specs.Fmt.{digit_glyph};
 ghost use Rattle.std.specs.Int.{to_le_bytes, w32};
 ghost use Rattle.replay.specs.Fnv.{fnv};
-ghost use Rattle.replay.specs.Units.{SpellsBytes, SpellsWord, SpellsAll, PutsSpelled};
+ghost use Rattle.replay.specs.Units.{SpellsBytes, SpellsWord, SpellsAll, SpellsRepeated, SpellsRun, PutsSpelled};
 
 use crate::Failure;
 use crate::digests::Digest;
@@ -13,7 +13,7 @@ use crate::fields::number;
 const MOST: u64 = 1_048_577;
 
 // A byte or a word.
-pub trait Unit: Copy + Into<u64> {
+pub trait Unit: Copy {
     // The bytes that it is digested by.
     ghost bytes: { Self → List ℕ };
 
@@ -99,7 +99,9 @@ pub fn put_units<T: Unit>(text: &str, units: &mut Vec<T>) -> Result<(), Failure>
 }
 
 // The one unit that a text spells, put behind the others so many times.
-fn put_repeated<T: Unit>(text: &str, count: u64, units: &mut Vec<T>) -> Result<(), Failure> {
+fn put_repeated<T: Unit>(text: &str, count: u64, units: &mut Vec<T>) -> Result<(), Failure>
+    ensures { OnOk result (PutsSpelled (SpellsRepeated T.spells count) text.now units.old.items units.new.items) }
+{
     let before = units.len();
     put_units(text, units)?;
     if units.len() != before + 1 || MOST < count {
@@ -111,7 +113,9 @@ fn put_repeated<T: Unit>(text: &str, count: u64, units: &mut Vec<T>) -> Result<(
 }
 
 // The units of a run, put behind the others: as they are spelled, or one, `*` and how often it stands.
-pub fn put_run<T: Unit>(run: &str, units: &mut Vec<T>) -> Result<(), Failure> {
+pub fn put_run<T: Unit>(run: &str, units: &mut Vec<T>) -> Result<(), Failure>
+    ensures { OnOk result (PutsSpelled (SpellsRun T.spells) run.now units.old.items units.new.items) }
+{
     match run.split_once('*') {
         Some((text, count)) => put_repeated(text, number(count)?, units),
         None => put_units(run, units),
