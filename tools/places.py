@@ -90,7 +90,8 @@ def switches():
 
 def proofs():
     walks = sorted(glob.glob('crates/*/proofs/**/Proof.antt', recursive=True))
-    cited = ''.join(open(p, encoding='utf-8').read() for p in glob.glob('crates/*/*/**/*.antt', recursive=True)) + ''.join(TEXTS.values())
+    sources = [p for p in glob.glob('crates/*/*/**/*.antt', recursive=True) if p.split('/')[2] != 'out']
+    cited = ''.join(open(p, encoding='utf-8').read() for p in sources) + ''.join(TEXTS.values())
     idle = []
     for p in sorted(glob.glob('crates/*/proofs/*.antt')):
         if p.startswith('crates/rules/'):
