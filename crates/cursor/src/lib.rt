@@ -1,9 +1,10 @@
 // How far a line is cut: past blanks and tokens, which go to a sink; and the tokens at a line's start.
 #![tactic(auto)]
 
-ghost use Rattle.std.specs.Prelude.{◌≡◌, true, ◌+◌, ◌*◌, ◌/◌, ◌%◌, ◌≤◌, ◌<◌, length};
+ghost use Rattle.std.specs.Prelude.{◌≡◌, true, ◌+◌, ◌*◌, ◌/◌, ◌%◌, ◌≤◌, ◌<◌, length, Some};
 ghost use Rattle.rules.specs.Line.{dedents};
 ghost use Rattle.rules.specs.Records.{token_size, token_words};
+ghost use Rattle.records.specs.Sinks.{Fits};
 ghost use Rattle.records.specs.Words.{words_at};
 ghost use Rattle.levels.specs.Levels.{leading};
 ghost use Rattle.cursor.specs.Cursors.{depth_by, cursor_at, blank_past, token_past};
@@ -85,8 +86,8 @@ pub fn past_token<S: Sink>(
     kind: u32,
     size: usize,
 ) -> Cursor
-    requires size_bound { (place.start + (t.at + size) ≤ 1_048_576) × ((place.line ≤ 4_194_304) × ((place.first ≤ 4_194_304) × ((t.n ≤ 8_388_608) × (t.depth ≤ 8_388_608)))) }
-    requires fits { S.fits tokens.old (token_size * (place.first + t.n) + token_size) }
+    requires size_bound { (place.start + (t.at + size) ≤ 1_048_576) × ((place.line ≤ 4_194_304) × ((t.n ≤ 8_388_608) × (t.depth ≤ 8_388_608))) }
+    requires fits { Fits (S.room tokens.old) (Some (token_size * (place.first + t.n) + token_size)) }
     ensures value { result ≡ token_past t kind size }
     ensures taken { S.takes tokens.old tokens.new (token_size * (place.first + t.n)) (words_at place t.at kind size) }
 {
@@ -96,8 +97,8 @@ pub fn past_token<S: Sink>(
 
 // Past the sign of this code. Most signs have one byte; that length is known without waiting for the code.
 pub fn past_sign<S: Sink>(tokens: &mut S, place: Place, t: Cursor, code: u32) -> Cursor
-    requires code_bound { (place.start + (t.at + (code / 128 + 1)) ≤ 1_048_576) × ((place.line ≤ 4_194_304) × ((place.first ≤ 4_194_304) × ((t.n ≤ 8_388_608) × (t.depth ≤ 8_388_608)))) }
-    requires fits { S.fits tokens.old (token_size * (place.first + t.n) + token_size) }
+    requires code_bound { (place.start + (t.at + (code / 128 + 1)) ≤ 1_048_576) × ((place.line ≤ 4_194_304) × ((t.n ≤ 8_388_608) × (t.depth ≤ 8_388_608))) }
+    requires fits { Fits (S.room tokens.old) (Some (token_size * (place.first + t.n) + token_size)) }
     ensures value { result ≡ token_past t (code % 128) (code / 128 + 1) }
     ensures taken { S.takes tokens.old tokens.new (token_size * (place.first + t.n)) (words_at place t.at (code % 128) (code / 128 + 1)) }
 {
@@ -109,8 +110,8 @@ pub fn past_sign<S: Sink>(tokens: &mut S, place: Place, t: Cursor, code: u32) ->
 
 // So many Dedents as the first tokens of the line.
 pub fn put_dedents<S: Sink>(tokens: &mut S, place: Place, count: usize)
-    requires start_bound { (place.start ≤ 1_048_576) × ((place.line ≤ 4_194_304) × ((place.first ≤ 4_194_304) × (count ≤ 8_388_608))) }
-    requires fits { S.fits tokens.old (token_size * (place.first + count)) }
+    requires start_bound { (place.start ≤ 1_048_576) × (place.line ≤ 4_194_304) }
+    requires fits { Fits (S.room tokens.old) (Some (token_size * (place.first + count))) }
     ensures { S.takes tokens.old tokens.new (token_size * place.first) (token_words place.start (place.line + 1) (dedents count)) }
 {
     for j in 0..count {
@@ -120,8 +121,8 @@ pub fn put_dedents<S: Sink>(tokens: &mut S, place: Place, count: usize)
 
 // The Indent or the Dedents at a line's start; how many they are.
 pub fn put_leading<S: Sink>(tokens: &mut S, place: Place, lead: Lead) -> usize
-    requires start_bound { (place.start ≤ 1_048_576) × ((place.line ≤ 4_194_304) × ((place.first ≤ 4_194_304) × (length (leading lead) ≤ 8_388_608))) }
-    requires fits { S.fits tokens.old (token_size * (place.first + length (leading lead))) }
+    requires start_bound { (place.start ≤ 1_048_576) × (place.line ≤ 4_194_304) }
+    requires fits { Fits (S.room tokens.old) (Some (token_size * (place.first + length (leading lead)))) }
     ensures value { result ≡ length (leading lead) }
     ensures taken { S.takes tokens.old tokens.new (token_size * place.first) (token_words place.start (place.line + 1) (leading lead)) }
 {

@@ -8,7 +8,7 @@ use native.Mathlib.Omega.{arith}
 use native.Mathlib.Numerals.{add-one}
 use lib.Dec.{eqb}
 use lib.ListN.{length, drop, length-append, length-drop}
-use Rattle.std.specs.Prelude.{Result, Ok, Err, if◌then◌else◌}
+use Rattle.std.specs.Prelude.{Option, Some, Result, Ok, Err, if◌then◌else◌}
 use Rattle.rules.specs.Lists.{run}
 use Rattle.rules.specs.Kinds.{ident, implies, l_paren, r_paren}
 use Rattle.rules.specs.Failure.{Failure}
@@ -25,9 +25,9 @@ use Rattle.indent.proofs.Spaces.{spaces_le, cuts-behind}
 use Rattle.cursor.specs.Cursors.{depth_by, cursor_at, blank_past, token_past}
 use Rattle.cursor.specs.declared.Cursor.{Cursor}
 use Rattle.cursor.proofs.Depths.{depth-by-le}
-use Rattle.records.specs.Sinks.{SinkLaws}
-use Rattle.records.proofs.Takes.{then-takes, fits_after}
-use Rattle.line.specs.LineCuts.{failure_in, line_cuts_of, tokens_of, Room, Taken}
+use Rattle.records.specs.Sinks.{Fits, SinkLaws}
+use Rattle.records.proofs.Takes.{then-takes, fits_after, fits-less, fits-endless}
+use Rattle.line.specs.LineCuts.{failure_in, line_cuts_of, tokens_of, tokens_end, Taken}
 use Rattle.literals.specs.declared.Failure as code
 use Rattle.line.specs.declared.Ends.{Ends}
 
@@ -100,7 +100,7 @@ pub record Done {S : Type 0} (takes : S → S → ℕ → List ℕ → Type 0) (
   pub value : r ≡ line_cuts_of d₀ (cuts_from 0 0 l)
   pub taken : Taken (takes tokens₀ tokens) place (tokens_of (cuts_from 0 0 l))
 
-module _ {S : Type 0} {fits : S → ℕ → Type 0} {takes : S → S → ℕ → List ℕ → Type 0} {named : Bool} (laws : SinkLaws fits takes named) where
+module _ {S : Type 0} {room : S → Option ℕ} {takes : S → S → ℕ → List ℕ → Type 0} {named : Bool} (laws : SinkLaws room takes named) where
   pub start : (l : List ℕ) (d₀ : ℕ) (place : Place) (tokens₀ : S) (spaces : ℕ) → spaces ≡ run is_space l → (t : Cursor) → t ≡ cursor_at spaces d₀ → Progress takes l d₀ place tokens₀ tokens₀ t
   unfolding depth_after arrow_after token_words
   start l d₀ place tokens₀ spaces is t e =
@@ -114,7 +114,7 @@ module _ {S : Type 0} {fits : S → ℕ → Type 0} {takes : S → S → ℕ →
         depth_is = refl;
         shallow = omega arith;
         arrow-is = refl;
-        words = laws.nothing tokens₀ (token_size * place.first);
+        words = laws.taken-nothing tokens₀ (token_size * place.first);
       })
 
   module _ {l : List ℕ} {d₀ : ℕ} {place : Place} {tokens₀ tokens : S} {t : Cursor} (v : Progress takes l d₀ place tokens₀ tokens t) where
@@ -164,7 +164,7 @@ module _ {S : Type 0} {fits : S → ℕ → Type 0} {takes : S → S → ℕ →
         -- its record has its real kind, or goes to a sink that takes any
         really : (b : Bool) → named ≡ b → {s s' : S} (at : ℕ) → takes s s' at (words_at place t.at kind size) → takes s s' at (words_at place t.at x.real size)
         really true e {s} {s'} at m = subst (λ (k : ℕ). takes s s' at (words_at place t.at k size)) (sym (x.named.real e)) m
-        really false e {s} {s'} at m = laws.unnamed e s s' at (words_at place t.at kind size) (words_at place t.at x.real size) refl m
+        really false e {s} {s'} at m = laws.taken-unnamed e s s' at (words_at place t.at kind size) (words_at place t.at x.real size) refl m
 
         taken_then : {tokens' : S} → takes tokens tokens' (token_size * (place.first + t.n)) (words_at place t.at kind size)
             → takes tokens₀ tokens' (token_size * place.first) (token_words place.start (place.line + 1) (v.done ++ (one ∷ [])))
@@ -201,17 +201,17 @@ module _ {S : Type 0} {fits : S → ℕ → Type 0} {takes : S → S → ℕ →
             go (stops f) q = let z : ◌≡◌ {A = ℕ} 0 1 = cc in absurd (omega arith)
 
         -- The cursor may pass it, it has room, and the cursor goes on.
-        pub may_pass : (place.start + length l ≤ 1_048_576) × ((place.line ≤ 4_194_304) × ((place.first ≤ 4_194_304) × (d₀ ≤ 4_194_304)))
-            → (place.start + (t.at + size) ≤ 1_048_576) × ((place.line ≤ 4_194_304) × ((place.first ≤ 4_194_304) × ((t.n ≤ 8_388_608) × (t.depth ≤ 8_388_608))))
+        pub may_pass : (place.start + length l ≤ 1_048_576) × ((place.line ≤ 4_194_304) × (d₀ ≤ 4_194_304))
+            → (place.start + (t.at + size) ≤ 1_048_576) × ((place.line ≤ 4_194_304) × ((t.n ≤ 8_388_608) × (t.depth ≤ 8_388_608)))
         may_pass small =
-            (omega (arith, small.0, x.in_line), (small.1.0, (small.1.1.0, (omega (arith, small.0, h, v.few), omega (arith, small.0, small.1.1.1, h, v.shallow)))))
+            (omega (arith, small.0, x.in_line), (small.1.0, (omega (arith, small.0, h, v.few), omega (arith, small.0, small.1.1, h, v.shallow))))
 
-        pub has_room : Room (fits tokens₀) place (tokens_of (cuts_from 0 0 l)) → fits tokens (token_size * (place.first + t.n) + token_size)
-        has_room room = go (cuts_from 0 0 l) refl room
+        pub has_room : Fits (room tokens₀) (tokens_end place (tokens_of (cuts_from 0 0 l))) → Fits (room tokens) (Some (token_size * (place.first + t.n) + token_size))
+        has_room fits = fits_after laws _ v.words (go (cuts_from 0 0 l) refl fits)
           where
-            go : (y : Cuts) → cuts_from 0 0 l ≡ y → Room (fits tokens₀) place (tokens_of y) → fits tokens (token_size * (place.first + t.n) + token_size)
-            go (cuts ts) e r = fits_after laws v.words (omega (arith, room_for ts e)) r
-            go (stops f) e r = laws.keeps tokens₀ tokens _ _ _ v.words (r _)
+            go : (y : Cuts) → cuts_from 0 0 l ≡ y → Fits (room tokens₀) (tokens_end place (tokens_of y)) → Fits (room tokens₀) (Some (token_size * (place.first + t.n) + token_size))
+            go (cuts ts) e f = fits-less _ (omega (arith, room_for ts e)) f
+            go (stops f) e r = fits-endless _ _ r
 
         pub goes_on : (t' : Cursor) → t' ≡ token_past t kind size → length l - t'.at < length l - t.at
         goes_on t' e = omega (arith, ap (λ (y : Cursor). y.at) e, x.some_bytes, h)

@@ -14,15 +14,15 @@ use Rattle.rules.specs.Line.{Token, token_at, Cuts, cuts, stops, cuts_from, dept
 use Rattle.rules.specs.Records.{token_size, token_words}
 use Rattle.rules.proofs.RecordLaws.{length_token_words}
 use Rattle.rules.proofs.BoundLaws.{cuts-ok}
-use Rattle.records.specs.Sinks.{SinkLaws}
+use Rattle.records.specs.Sinks.{Fits, SinkLaws}
 use Rattle.records.specs.Words.{words_at}
 use Rattle.records.specs.declared.Place.{Place}
-use Rattle.records.proofs.Takes.{then-takes, fits_after}
-use Rattle.std.specs.Prelude.{Option, Result, Ok, Err}
+use Rattle.records.proofs.Takes.{then-takes, fits_after, fits-less}
+use Rattle.std.specs.Prelude.{Option, Some, None, Result, Ok, Err}
 use Rattle.literals.specs.declared.Failure as code
-use Rattle.levels.specs.Levels.{leading}
+use Rattle.levels.specs.Levels.{leading, with_widths}
 use Rattle.levels.specs.declared.Lead.{Lead}
-use Rattle.line.specs.LineCuts.{failure_in, line_cuts_of, tokens_of, Room, Taken, whole_line, whole_of, tokens_in, counted_reads, counted, counted_of}
+use Rattle.line.specs.LineCuts.{failure_in, line_cuts_of, tokens_of, tokens_end, Taken, whole_line, whole_of, tokens_in, left_of, state_left, counted_reads, counted, counted_of}
 use Rattle.line.specs.declared.Ends.{Ends}
 use Rattle.line.specs.declared.Halt.TheVariants.{Fails}
 
@@ -41,7 +41,7 @@ pub few-tokens : (line : List ℕ) (ts : List Token) → cuts_from 0 0 line ≡ 
 few-tokens line ts e = (cuts-ok 0 0 line ts e).0
 
 -- The room and the words of the three parts, one behind the other.
-module _ {S : Type 0} {fits : S → ℕ → Type 0} {takes : S → S → ℕ → List ℕ → Type 0} {named : Bool} (laws : SinkLaws fits takes named) (lead : Lead) (line : List ℕ) (place : Place) where
+module _ {S : Type 0} {room : S → Option ℕ} {takes : S → S → ℕ → List ℕ → Type 0} {named : Bool} (laws : SinkLaws room takes named) (lead : Lead) (line : List ℕ) (place : Place) where
   abbrev all : Cuts → Option (List Token)
   all x = tokens_of (whole_line lead line x)
 
@@ -57,9 +57,9 @@ module _ {S : Type 0} {fits : S → ℕ → Type 0} {takes : S → S → ℕ →
   two ts = token_words place.start (place.line + 1) (leading lead ++ ts)
 
   module _ {m : ℕ} {t₀ t₁ : S} (many : m ≡ length (leading lead)) (e₁ : takes t₀ t₁ (token_size * place.first) (token_words place.start (place.line + 1) (leading lead))) where
-    pub room-inside : (x : Cuts) → Room (fits t₀) place (all x) → Room (fits t₁) (inner m) (tokens_of x)
-    room-inside (cuts ts) h = fits_after laws e₁ (omega (arith, many, length-append (leading lead) (ts ++ nl), length-append ts nl)) h
-    room-inside (stops f) h = λ n. laws.keeps t₀ t₁ _ _ n e₁ (h n)
+    pub room-inside : (x : Cuts) → Fits (room t₀) (tokens_end place (all x)) → Fits (room t₁) (tokens_end (inner m) (tokens_of x))
+    room-inside (cuts ts) h = fits_after laws _ e₁ (fits-less _ (omega (arith, many, length-append (leading lead) (ts ++ nl), length-append ts nl)) h)
+    room-inside (stops f) h = fits_after laws None e₁ h
 
     module _ {n : ℕ} (ts : List Token) (count : length ts ≡ n) where
       long : token_size * (place.first + (m + n)) ≡ token_size * place.first + length (two ts)
@@ -69,9 +69,10 @@ module _ {S : Type 0} {fits : S → ℕ → Type 0} {takes : S → S → ℕ →
       joined e₂ =
           then-takes laws e₁ (omega (arith, many, length_token_words place.start (place.line + 1) (leading lead))) e₂ (sym (words_append place.start (place.line + 1) (leading lead) ts))
 
-      pub room-end : {t₂ : S} (x : Cuts) → x ≡ cuts ts → Room (fits t₀) place (all x) → Taken (takes t₁ t₂) (inner m) (tokens_of x) → fits t₂ (token_size * (place.first + (m + n)) + token_size)
-      room-end x e h e₂ =
-          fits_after laws (joined (rw e at e₂)) (omega (arith, many, count, length-append (leading lead) (ts ++ nl), length-append ts nl)) (rw e at h)
+      pub room-end : (t₂ : S) (x : Cuts) → x ≡ cuts ts → Fits (room t₀) (tokens_end place (all x)) → Taken (takes t₁ t₂) (inner m) (tokens_of x)
+          → Fits (room t₂) (Some (token_size * (place.first + (m + n)) + token_size))
+      room-end t₂ x e h e₂ =
+          fits_after laws _ (joined (rw e at e₂)) (fits-less _ (omega (arith, many, count, length-append (leading lead) (ts ++ nl), length-append ts nl)) (rw e at h))
 
       pub whole-ends : {t₂ t₃ : S} (x : Cuts) → x ≡ cuts ts → Taken (takes t₁ t₂) (inner m) (tokens_of x) → takes t₂ t₃ (token_size * (place.first + (m + n))) (words_at place (length line) newline 0)
           → Taken (takes t₀ t₃) place (all x)
@@ -125,6 +126,13 @@ module _ (lim : LineLimits) (st : State) (line : List ℕ) where
         let m : f ≡ failure_in g = cc in
         ap (λ (h : code.Failure). counted_of (Err (Fails h)) z) m
 
+    reply-left : (x : Cuts) (r : Result ℕ code.Failure) (z : State) → (r, z) ≡ whole_of lead s x → z ≡ left_of (reply x) s
+    unfolding with_cuts
+    reply-left (cuts ts) r z q =
+        let after : ℕ → State = λ k. record { depth = depth_after k ts; arrow = arrow_after false ts; widths = s.widths } in
+        ap (λ (p : Result ℕ code.Failure × State). p.1) q ∙ ap after d
+    reply-left (stops f) r z q = ap (λ (p : Result ℕ code.Failure × State). p.1) q
+
     reply-tokens : (x : Cuts) → tokens_of (whole_line lead line x) ≡ tokens_in (reply x)
     unfolding with_cuts
     reply-tokens (cuts ts) = refl
@@ -135,6 +143,9 @@ module _ (lim : LineLimits) (st : State) (line : List ℕ) where
 
     pub line-failed : (f : code.Failure) (z : State) → (Err f, z) ≡ whole_of lead s (cuts_from 0 0 line) → counted_of (Err (Fails f)) z ≡ counted (read_line lim st line)
     line-failed f z q = reply-failed (cuts_from 0 0 line) f z q ∙ ap counted (sym known)
+
+    pub line-left : (r : Result ℕ code.Failure) (z : State) → (r, z) ≡ whole_of lead s (cuts_from 0 0 line) → s ≡ with_widths (levels_of lim st line) st → z ≡ state_left lim st line
+    line-left r z q e = reply-left (cuts_from 0 0 line) r z q ∙ (λ i. left_of (sym known i) (e i))
 
     pub line-tokens : tokens_of (whole_line lead line (cuts_from 0 0 line)) ≡ tokens_in (read_line lim st line)
     line-tokens = reply-tokens (cuts_from 0 0 line) ∙ ap tokens_in (sym known)

@@ -4,12 +4,13 @@ use Rattle.std.specs.Prelude.{ℕ, ◌+◌, ◌*◌, false, List, [], ◌∷◌,
 use Rattle.rules.specs.Failure as RulesFailure
 use Rattle.rules.specs.Kinds.{newline}
 use Rattle.rules.specs.Line as RulesLine
-use Rattle.rules.specs.Line.{Token, token_at, Cuts, cuts, stops, depth_after, arrow_after, State, failed, over_limit, LineReply, line_reads, line_halts}
+use Rattle.rules.specs.Line.{Token, token_at, Cuts, cuts, stops, depth_after, arrow_after, State, failed, over_limit, LineReply, line_reads, line_halts, levels_of, read_line}
+use Rattle.rules.specs.Limits.{LineLimits}
 use Rattle.literals.specs.Cuts.{failure_of}
 use Rattle.literals.specs.declared.Failure.{Failure}
 use Rattle.rules.specs.Records.{token_size, token_words}
 use Rattle.records.specs.declared.Place.{Place}
-use Rattle.levels.specs.Levels.{leading}
+use Rattle.levels.specs.Levels.{leading, with_widths}
 use Rattle.levels.specs.declared.Lead.{Lead}
 use Rattle.line.specs.declared.Ends.{Ends}
 use Rattle.line.specs.declared.Halt.{Halt}
@@ -30,10 +31,10 @@ tokens_of (stops f) = None
 
 -- The sink of the tokens.
 
--- it has room for those from a place on; for any words, where the line does not read
-abbrev pub Room : (fits : ℕ → Type 0) → Place → Option (List Token) → Type 0
-Room fits p (Some ts) = fits (token_size * (p.first + length ts))
-Room fits p None = (n : ℕ) → fits n
+-- the index behind those from a place on
+abbrev pub tokens_end : Place → Option (List Token) → Option ℕ
+tokens_end p (Some ts) = Some (token_size * (p.first + length ts))
+tokens_end p None = None
 
 -- it takes them
 abbrev pub Taken : (takes : ℕ → List ℕ → Type 0) → Place → Option (List Token) → Type 0
@@ -58,6 +59,14 @@ whole_of lead s (stops f) = (Err (failure_in f), s)
 abbrev pub tokens_in : LineReply → Option (List Token)
 tokens_in (line_reads ts s) = Some ts
 tokens_in (line_halts h) = None
+
+-- the state that a line leaves: where it does not read, the one after its levels
+abbrev pub left_of : LineReply → (after-levels : State) → State
+left_of (line_reads ts s) z = s
+left_of (line_halts h) z = z
+
+abbrev pub state_left : LineLimits → State → (line : List ℕ) → State
+state_left lim s line = left_of (read_line lim s line) (with_widths (levels_of lim s line) s)
 
 -- with its tokens counted
 pub data Counted : Type 0 where

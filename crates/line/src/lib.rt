@@ -3,11 +3,12 @@
 
 ghost use Rattle.std.specs.Prelude.{◌≡◌, ◌+◌, ◌≤◌, length, Ok};
 ghost use Rattle.rules.specs.Lists.{run};
-ghost use Rattle.rules.specs.Line.{moved_by, is_space, levels_of, cuts_from, read_line};
+ghost use Rattle.rules.specs.Line.{moved_by, is_space, cuts_from, read_line};
 ghost use Rattle.literals.specs.Cuts.{failure_of};
+ghost use Rattle.records.specs.Sinks.{Fits};
 ghost use Rattle.refusals.specs.Limits.{line_limits_of};
-ghost use Rattle.levels.specs.Levels.{with_widths, Within};
-ghost use Rattle.line.specs.LineCuts.{line_cuts_of, tokens_of, Room, Taken, failure_in, whole_line, whole_of, tokens_in, counted, counted_of};
+ghost use Rattle.levels.specs.Levels.{Within};
+ghost use Rattle.line.specs.LineCuts.{line_cuts_of, tokens_of, tokens_end, Taken, failure_in, whole_line, whole_of, tokens_in, state_left, counted, counted_of};
 
 use cursor::Cursor;
 use cut::Cut;
@@ -55,8 +56,8 @@ fn cut_line<S: Sink>(
     depth: u32,
 ) -> Result<Ends, Failure>
     requires spaces_value { spaces ≡ run is_space line.now }
-    requires line_bound { (place.start + length line.now ≤ 1_048_576) × ((place.line ≤ 4_194_304) × ((place.first ≤ 4_194_304) × (depth ≤ 4_194_304))) }
-    requires room { Room (S.fits tokens.old) place (tokens_of (cuts_from 0 0 line.now)) }
+    requires line_bound { (place.start + length line.now ≤ 1_048_576) × ((place.line ≤ 4_194_304) × (depth ≤ 4_194_304)) }
+    requires room { Fits (S.room tokens.old) (tokens_end place (tokens_of (cuts_from 0 0 line.now))) }
     ensures value { result ≡ line_cuts_of depth (cuts_from 0 0 line.now) }
     ensures taken { Taken (S.takes tokens.old tokens.new) place (tokens_of (cuts_from 0 0 line.now)) }
 {
@@ -132,7 +133,7 @@ fn cut_after<S: Sink>(
 ) -> Result<usize, Failure>
     requires line_bound { (place.start + length line.now ≤ 1_048_576) × ((place.line ≤ 4_194_304) × ((place.first ≤ 3_000_000) × (state.old.depth ≤ 4_194_304))) }
     requires lead_bound { Within (Ok lead) × (spaces ≡ run is_space line.now) }
-    requires room { Room (S.fits tokens.old) place (tokens_of (whole_line lead line.now (cuts_from 0 0 line.now))) }
+    requires room { Fits (S.room tokens.old) (tokens_end place (tokens_of (whole_line lead line.now (cuts_from 0 0 line.now)))) }
     ensures value { (result, state.new) ≡ whole_of lead state.old (cuts_from 0 0 line.now) }
     ensures taken { Taken (S.takes tokens.old tokens.new) place (tokens_of (whole_line lead line.now (cuts_from 0 0 line.now))) }
 {
@@ -159,9 +160,9 @@ pub fn read_line<S: Sink>(
     state: &mut State,
 ) -> Result<usize, Halt>
     requires line_bound { (place.start + length line.now ≤ 1_048_576) × ((place.line ≤ 4_194_304) × ((place.first ≤ 3_000_000) × (state.old.depth ≤ 4_194_304))) }
-    requires room { Room (S.fits tokens.old) place (tokens_in (read_line (line_limits_of limits) state.old line.now)) }
+    requires room { Fits (S.room tokens.old) (tokens_end place (tokens_in (read_line (line_limits_of limits) state.old line.now))) }
     ensures value { counted_of result state.new ≡ counted (read_line (line_limits_of limits) state.old line.now) }
-    ensures widths_after { state.new.widths ≡ (with_widths (levels_of (line_limits_of limits) state.old line.now) state.old).widths }
+    ensures left { state.new ≡ state_left (line_limits_of limits) state.old line.now }
     ensures taken { Taken (S.takes tokens.old tokens.new) place (tokens_in (read_line (line_limits_of limits) state.old line.now)) }
 {
     let spaces = indent::leading_spaces(tables, line);

@@ -1,14 +1,15 @@
 // One line of a text at its place, and its record.
 #![tactic(auto)]
 
-ghost use Rattle.std.specs.Prelude.{◌≡◌, true, suc, ◌+◌, ◌-◌, ◌*◌, ◌≤◌, ◌<◌, ltb, length, drop, if◌then◌else◌};
+ghost use Rattle.std.specs.Prelude.{◌≡◌, true, suc, ◌+◌, ◌-◌, ◌*◌, ◌≤◌, ◌<◌, ltb, length, drop, Some, if◌then◌else◌};
 ghost use Rattle.rules.specs.Lists.{run};
 ghost use Rattle.rules.specs.Failure.{detail_of, failure_record};
 ghost use Rattle.rules.specs.Line.{dedents, read_line};
 ghost use Rattle.rules.specs.Reading.{not_lf, line_at, size_at};
 ghost use Rattle.rules.specs.Records.{line_size, token_size, line_record, token_words};
 ghost use Rattle.literals.specs.Cuts.{failure_of};
-ghost use Rattle.line.specs.LineCuts.{tokens_in, Room, Taken};
+ghost use Rattle.records.specs.Sinks.{Fits};
+ghost use Rattle.line.specs.LineCuts.{tokens_in, tokens_end, state_left, Taken};
 ghost use Rattle.refusals.specs.Limits.{line_limits_of};
 ghost use Rattle.refusals.specs.Unreads.{record_in};
 ghost use Rattle.lines.specs.Steps.{StepIs};
@@ -30,7 +31,7 @@ pub fn line_end(text: &[u8], at: usize) -> usize
 // The codes of the details, by number, as the record has them; number 0 is as 1.
 const CODES: [u32; 13] = [1, 1, 2, 4, 101, 1, 1, 1, 1, 1, 1, 1, 1];
 
-// The code of a detail; 0 past the last one.
+// The code of a detail; 0 past the last one. A table by number, as the record has the detail by its number.
 fn code_of(detail: u32) -> u32
     ensures { result ≡ (detail_of detail).code }
 {
@@ -89,9 +90,10 @@ pub fn next_line<S: Sink>(
 ) -> Result<Next, Unread>
     requires at_in_bounds { (at < length text.now) × ((place.start + (length text.now - at) ≤ 1_048_576) × ((place.line ≤ 1_048_576) × (place.first ≤ 3_000_000))) }
     requires depth_bound { state.old.depth ≤ 4_194_304 }
-    requires line_room { S.fits lines.old (line_size * place.line + line_size) }
-    requires token_room { Room (S.fits tokens.old) place (tokens_in (read_line (line_limits_of limits) state.old (line_at text.now at))) }
+    requires line_room { Fits (S.room lines.old) (Some (line_size * place.line + line_size)) }
+    requires token_room { Fits (S.room tokens.old) (tokens_end place (tokens_in (read_line (line_limits_of limits) state.old (line_at text.now at)))) }
     ensures step_is { StepIs state.new place.start (place.line + 1) (at + size_at text.now at) (read_line (line_limits_of limits) state.old (line_at text.now at)) result }
+    ensures left { state.new ≡ state_left (line_limits_of limits) state.old (line_at text.now at) }
     ensures line_taken { S.takes lines.old lines.new (line_size * place.line) (line_record place.start place.first state.old) }
     ensures tokens_taken { Taken (S.takes tokens.old tokens.new) place (tokens_in (read_line (line_limits_of limits) state.old (line_at text.now at))) }
 {
@@ -110,8 +112,8 @@ pub fn next_line<S: Sink>(
 // The end of a text, at this place: its record and its Dedents.
 pub fn put_end<S: Sink>(lines: &mut S, tokens: &mut S, end: Place, state: &State)
     requires end_bound { (end.start ≤ 1_048_576) × ((end.line ≤ 4_194_304) × (end.first ≤ 4_194_304)) }
-    requires line_room { S.fits lines.old (line_size * end.line + line_size) }
-    requires token_room { S.fits tokens.old (token_size * (end.first + length state.now.widths)) }
+    requires line_room { Fits (S.room lines.old) (Some (line_size * end.line + line_size)) }
+    requires token_room { Fits (S.room tokens.old) (Some (token_size * (end.first + length state.now.widths))) }
     ensures line_taken { S.takes lines.old lines.new (line_size * end.line) (line_record end.start end.first state.now) }
     ensures tokens_taken { S.takes tokens.old tokens.new (token_size * end.first) (token_words end.start (end.line + 1) (dedents (length state.now.widths))) }
 {

@@ -1,6 +1,6 @@
 -- A pass over all lines of a text: what reading on may do, and the end.
 -- Assumes nothing.
-use Rattle.std.proofs.Common.{ℕ, ◌≡◌, ◌+◌, ◌*◌, ◌≤◌, Bool, List, [], ◌∷◌, ◌++◌, Ok, Err, refl, sym, ap, subst, ◌∙◌, append-nil, length, drop, drop_of_length-le, arith}
+use Rattle.std.proofs.Common.{ℕ, ◌≡◌, ◌+◌, ◌*◌, ◌≤◌, Bool, List, [], ◌∷◌, ◌++◌, Option, Some, Ok, Err, refl, sym, ap, subst, ◌∙◌, append-nil, length, drop, drop_of_length-le, arith}
 use Rattle.std.proofs.lemmas.List.{length-replicate}
 use Rattle.rules.specs.Kinds.{dedent}
 use Rattle.rules.specs.Limits.{max_levels, LineLimits}
@@ -11,16 +11,16 @@ use Rattle.rules.proofs.LineLaws.{total-lines}
 use Rattle.rules.proofs.ReadingLaws.{read-sizes, token_sum_append}
 use Rattle.rules.proofs.LoopLaws.{ReadTo}
 use Rattle.rules.proofs.BoundLaws.{SmallAt, read_small}
-use Rattle.records.specs.Sinks.{SinkLaws}
+use Rattle.records.specs.Sinks.{Fits, SinkLaws}
 use Rattle.records.specs.declared.Place.{Place}
-use Rattle.records.proofs.Takes.{takes_as, then-takes, fits_after}
+use Rattle.records.proofs.Takes.{takes_as, then-takes, fits_after, fits-less}
 use Rattle.records.specs.declared.Counts.{Counts}
 use Rattle.refusals.specs.declared.Unread.{Unread}
-use Rattle.rereading.specs.Rereads.{HaltsAs}
-use Rattle.rereading.specs.Sinks.{RoomFrom, AllTaken, EndIs}
-use Rattle.rereading.proofs.Rereads.{halts-whole}
+use Rattle.rereading.specs.Rereads.{HaltsIn}
+use Rattle.rereading.specs.Sinks.{line_records_end, token_records_end, AllTaken, EndIs}
+use Rattle.rereading.proofs.Rereads.{halts-as, halts-whole}
 use Rattle.rereading.proofs.Rooms.{line_place, line_then, token_place, token_then}
-use Rattle.passes.specs.Passes.{pass_of, RoomIn, TakenIn}
+use Rattle.passes.specs.Passes.{pass_of, line_need_of, token_need_of, TakenIn}
 
 end-tokens : (es : List Entry) (z : State) → token_sum (with_end es z) ≡ token_sum es + length z.widths
 unfolding token_sum
@@ -56,12 +56,12 @@ module _ (lim : LineLimits) (fit : lim.levels ≤ max_levels) (t : List ℕ) (sh
   start = record { line = 0; first = 0; start = 0 }
 
   -- it does not read
-  pub halted_pass : {u : Unread} → HaltsAs (reading lim t z₀) 0 0 u → Err u ≡ pass_of (read_lines lim t)
+  pub halted_pass : {left : State} {u : Unread} → HaltsIn lim t z₀ 0 0 left u → Err u ≡ pass_of (read_lines lim t)
   unfolding read_lines recorded_by
-  halted_pass x = let y = halts-whole x in ap Err y.3 ∙ ap (λ (r : Reading). pass_of (recorded_by r)) (sym y.2 ∙ first)
+  halted_pass x = let y = halts-whole (halts-as x) in ap Err y.3 ∙ ap (λ (r : Reading). pass_of (recorded_by r)) (sym y.2 ∙ first)
 
   -- it is read to its end, so many bytes, lines and tokens, in the state z; the end's record and Dedents are written after those of the lines
-  module _ {c : Counts} {z : State} (v : EndIs (reading lim t z₀) 0 0 z (Ok c)) where
+  module _ {c : Counts} {z : State} (v : EndIs lim t z₀ 0 0 z (Ok c)) where
     ended : whole lim t ≡ reads v.0 z
     ended = sym first ∙ v.1
 
@@ -83,26 +83,33 @@ module _ (lim : LineLimits) (fit : lim.levels ≤ max_levels) (t : List ℕ) (sh
     tokens-are : 0 + token_sum v.0 ≡ c.tokens
     tokens-are = omega (arith, v.2.tokens)
 
-  module _ {S : Type 0} {fits : S → ℕ → Type 0} {takes : S → S → ℕ → List ℕ → Type 0} {named : Bool} (laws : SinkLaws fits takes named) (l₀ t₀ : S)
-      (room : RoomIn (fits l₀) (fits t₀) (whole lim t)) where
-    pub room_first : RoomFrom (fits l₀) (fits t₀) start (reading lim t z₀)
-    room_first = rw first (go (whole lim t) room)
+  module _ {S : Type 0} {room : S → Option ℕ} {takes : S → S → ℕ → List ℕ → Type 0} {named : Bool} (laws : SinkLaws room takes named) (l₀ t₀ : S) where
+    pub line_room_first : Fits (room l₀) (line_need_of (whole lim t)) → Fits (room l₀) (line_records_end start (reading lim t z₀))
+    line_room_first f = rw first (go (whole lim t) f)
       where
-        go : (x : Reading) → RoomIn (fits l₀) (fits t₀) x → RoomFrom (fits l₀) (fits t₀) start x
-        go (reads es z) r = (laws.fewer l₀ _ _ (omega arith) r.0, laws.fewer t₀ _ _ (omega (arith, end-tokens es z)) r.1)
-        go (halts es x) r = r
+        go : (x : Reading) → Fits (room l₀) (line_need_of x) → Fits (room l₀) (line_records_end start x)
+        go (reads es z) f = fits-less _ (omega arith) f
+        go (halts es x) f = f
 
-    module _ {c : Counts} {z : State} (v : EndIs (reading lim t z₀) 0 0 z (Ok c)) (l₁ t₁ : S) (m : AllTaken (takes l₀ l₁) (takes t₀ t₁) start (reading lim t z₀)) where
+    pub token_room_first : Fits (room t₀) (token_need_of (whole lim t)) → Fits (room t₀) (token_records_end start (reading lim t z₀))
+    token_room_first f = rw first (go (whole lim t) f)
+      where
+        go : (x : Reading) → Fits (room t₀) (token_need_of x) → Fits (room t₀) (token_records_end start x)
+        go (reads es z) f = fits-less _ (omega (arith, end-tokens es z)) f
+        go (halts es x) f = f
+
+    module _ {c : Counts} {z : State} (v : EndIs lim t z₀ 0 0 z (Ok c)) (l₁ t₁ : S) (m : AllTaken (takes l₀ l₁) (takes t₀ t₁) start (reading lim t z₀)) where
       lines-taken : takes l₀ l₁ 0 (line_records 0 0 v.0)
       lines-taken = (subst (AllTaken (takes l₀ l₁) (takes t₀ t₁) start) v.1 m).0
 
       tokens-taken : takes t₀ t₁ 0 (token_records 0 1 v.0)
       tokens-taken = (subst (AllTaken (takes l₀ l₁) (takes t₀ t₁) start) v.1 m).1
 
-      pub end_room : fits l₁ (line_size * c.lines + line_size) × fits t₁ (token_size * (c.tokens + length z.widths))
-      end_room =
-          let r = subst (RoomIn (fits l₀) (fits t₀)) (ended v) room in
-          (fits_after laws lines-taken (omega (arith, v.2.lines)) r.0, fits_after laws tokens-taken (omega (arith, all-tokens v)) r.1)
+      pub end_line_room : Fits (room l₀) (line_need_of (whole lim t)) → Fits (room l₁) (Some (line_size * c.lines + line_size))
+      end_line_room f = fits_after laws _ lines-taken (fits-less _ (omega (arith, v.2.lines)) (subst (λ (x : Reading). Fits (room l₀) (line_need_of x)) (ended v) f))
+
+      pub end_token_room : Fits (room t₀) (token_need_of (whole lim t)) → Fits (room t₁) (Some (token_size * (c.tokens + length z.widths)))
+      end_token_room f = fits_after laws _ tokens-taken (fits-less _ (omega (arith, all-tokens v)) (subst (λ (x : Reading). Fits (room t₀) (token_need_of x)) (ended v) f))
 
       pub end_taken : {l₂ t₂ : S} → takes l₁ l₂ (line_size * c.lines) (line_record (length t) c.tokens z) → takes t₁ t₂ (token_size * c.tokens) (token_words (length t) (c.lines + 1) (dedents (length z.widths)))
           → TakenIn (takes l₀ l₂) (takes t₀ t₂) (whole lim t)

@@ -1,6 +1,6 @@
 -- What a pass over a text gives and writes.
 -- Assumes nothing.
-use Rattle.std.specs.Prelude.{ℕ, ◌≡◌, List, length, Result, Ok, Err}
+use Rattle.std.specs.Prelude.{ℕ, ◌≡◌, List, length, Option, Some, None, Result, Ok, Err}
 use Rattle.rules.specs.Reading.{Reading, reads, halts, byte_sum, token_sum}
 use Rattle.rules.specs.Records.{line_need, token_need, Header, with_end, records_of, FreshReading, recorded, unread}
 use Rattle.records.specs.declared.Counts.{Counts}
@@ -16,10 +16,14 @@ abbrev pub pass_of : FreshReading → Result Counts Unread
 pass_of (recorded r) = Ok (counts_of r.head)
 pass_of (unread u) = Err (unread_in u)
 
--- two sinks have room for its records; for any words, where it does not read
-abbrev pub RoomIn : (lines tokens : ℕ → Type 0) → Reading → Type 0
-RoomIn lines tokens (reads es z) = lines (line_need (length es)) × tokens (token_need (token_sum (with_end es z)))
-RoomIn lines tokens (halts es h) = ((n : ℕ) → lines n) × ((n : ℕ) → tokens n)
+-- the words of its records
+abbrev pub line_need_of : Reading → Option ℕ
+line_need_of (reads es z) = Some (line_need (length es))
+line_need_of (halts es h) = None
+
+abbrev pub token_need_of : Reading → Option ℕ
+token_need_of (reads es z) = Some (token_need (token_sum (with_end es z)))
+token_need_of (halts es h) = None
 
 -- they take its records, where it reads
 abbrev pub TakenIn : (lines tokens : ℕ → List ℕ → Type 0) → Reading → Type 0

@@ -6,8 +6,9 @@ ghost use Rattle.rules.specs.Line.{initial};
 ghost use Rattle.rules.specs.Reading.{lines_of, read_from};
 ghost use Rattle.rules.specs.Limits.{max_levels};
 ghost use Rattle.rules.specs.Records.{read_lines, fresh_reading_by};
+ghost use Rattle.records.specs.Sinks.{Fits};
 ghost use Rattle.refusals.specs.Limits.{line_limits_of, limits_of};
-ghost use Rattle.passes.specs.Passes.{pass_of, RoomIn, TakenIn};
+ghost use Rattle.passes.specs.Passes.{pass_of, line_need_of, token_need_of, TakenIn};
 
 pub use records::Counts;
 use records::{Nowhere, Place, Sink, State};
@@ -23,7 +24,8 @@ pub fn pass_lines<S: Sink>(
     limits: LineLimits,
 ) -> Result<Counts, Unread>
     requires text_bound { length text.now ≤ 1_048_576 }
-    requires room { RoomIn (S.fits lines.old) (S.fits tokens.old) (read_from (line_limits_of limits) initial (lines_of text.now)) }
+    requires line_room { Fits (S.room lines.old) (line_need_of (read_from (line_limits_of limits) initial (lines_of text.now))) }
+    requires token_room { Fits (S.room tokens.old) (token_need_of (read_from (line_limits_of limits) initial (lines_of text.now))) }
     ensures value { result ≡ pass_of (read_lines (line_limits_of limits) text.now) }
     ensures taken { TakenIn (S.takes lines.old lines.new) (S.takes tokens.old tokens.new) (read_from (line_limits_of limits) initial (lines_of text.now)) }
 {

@@ -506,7 +506,7 @@ module _ {pg : Page} {ed : Edit} (ok : Editable pg ed) where
 
     halted : (h : Halt) (es : List Entry) → read_from barge_line initial (lines_of u) ≡ halts es h → read_lines barge_line u ≡ unread (halt_refusal (byte_sum es) (suc (length es)) h)
     unfolding read_lines recorded_by
-    halted h es e = ap recorded_by e
+    halted h _ e = ap recorded_by e
 
     halt_refusal_lem : (p l : ℕ) (h : Halt) → HaltNumbered barge_line h → LineRefusal (unread_in (halt_refusal p l h))
     unfolding halt_refusal
@@ -517,7 +517,7 @@ module _ {pg : Page} {ed : Edit} (ok : Editable pg ed) where
     unfolding old_of stored
     halt_plan left {x} h =
         let g = h.0 in (
-          subst LineRefusal (sym g.3) (halt_refusal_lem _ _ g.1 (halt_numbered barge_line z (lines_of (drop base u)) g.0 g.1 g.2)),
+          subst LineRefusal (sym g.why) (halt_refusal_lem _ _ g.halt (halt_numbered barge_line z (lines_of (drop base u)) g.es g.halt g.halts-are)),
           λ spare fa.
               let v = halts-whole (h.1 (old_of (faithful_behind fa) i at-is)) in
               ap (stored (record { text = length text; spare = spare; lines = length lines; tokens = length tokens }) (reread_count barge_line t ed)) (halted v.1 v.0 v.2)

@@ -1,3 +1,4 @@
+pub mod StateLaws
 pub mod States
 pub mod Words
 pub mod Sinks

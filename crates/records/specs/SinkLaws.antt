@@ -1,23 +1,23 @@
 -- The laws of each sink.
 -- Assumes nothing.
-use Rattle.std.proofs.Common.{ℕ, ◌+◌, ◌≡◌, refl, sym, ap, ◌∙◌, Bool, true, false, ◌&&◌, List, ◌++◌, length, drop, arith, true≢false}
+use Rattle.std.proofs.Common.{ℕ, ◌+◌, ◌≡◌, refl, sym, ap, ◌∙◌, Bool, true, false, ◌&&◌, List, ◌++◌, length, drop, Some, None, true≢false}
 use Rattle.std.proofs.lemmas.List.Edits.{sets}
 use lib.Seq.{length-sets}
 use Rattle.laws.proofs.Sets.{sets_append}
 use Rattle.rules.specs.Lists.{begins}
 use mathlib.Core.Bool.{and_assoc}
 use Rattle.rules.proofs.BeginsLaws.{begins-parts}
-use Rattle.records.specs.Sinks.{SinkLaws, nowhere_fits, NowhereTakes, written_fits, Writes, held_fits, Compares}
+use Rattle.records.specs.Sinks.{SinkLaws, NowhereTakes, Writes, Compares}
+use Rattle.records.specs.declared.sink.Nowhere.{Nowhere}
 use Rattle.records.specs.declared.sink.Written.{Written}
 use Rattle.records.specs.declared.sink.Held.{Held}
 
-pub nowhere-laws : SinkLaws nowhere_fits NowhereTakes false
+pub nowhere-laws : SinkLaws (λ (s : Nowhere). None) NowhereTakes false
 nowhere-laws = record {
-  nothing = λ s at. tt;
-  joined = λ s t u at xs ys m n. tt;
-  keeps = λ s t at xs n m f. tt;
-  fewer = λ s n k l f. tt;
-  unnamed = λ e s t at xs ys h m. tt;
+  taken-nothing = λ s at. tt;
+  taken-behind = λ s t u at xs ys m n. tt;
+  room-kept = λ s t at xs m. refl;
+  taken-unnamed = λ e s t at xs ys h m. tt;
 }
 
 written-joined : (s t u : Written) (at : ℕ) (xs ys : List ℕ) → Writes s t at xs → Writes t u (at + length xs) ys → Writes s u at (xs ++ ys)
@@ -27,13 +27,12 @@ written-joined s t u at xs ys m n =
       written = n.written ∙ ap (λ (l : List ℕ). sets l (at + length xs) ys) m.written ∙ sym (sets_append xs ys s.words.now at);
     }
 
-pub written-laws : SinkLaws written_fits Writes true
+pub written-laws : SinkLaws (λ (s : Written). Some (length s.words.now)) Writes true
 written-laws = record {
-  nothing = λ s at. record { same = refl; written = refl };
-  joined = written-joined;
-  keeps = λ s t at xs n m f. omega (arith, f, ap length m.written, length-sets s.words.now at xs);
-  fewer = λ s n k l f. omega (arith, l, f);
-  unnamed = λ e s t at xs ys h m. absurd (true≢false e);
+  taken-nothing = λ s at. record { same = refl; written = refl };
+  taken-behind = written-joined;
+  room-kept = λ s t at xs m. ap Some (ap length m.written ∙ length-sets s.words.now at xs);
+  taken-unnamed = λ e s t at xs ys h m. absurd (true≢false e);
 }
 
 and-one : (b : Bool) → (b && true) ≡ b
@@ -49,12 +48,11 @@ held-joined s t u at xs ys m n =
           ∙ ap (λ (b : Bool). s.same && b) (sym (begins-parts xs ys s.words.now at (at + length xs) refl));
     }
 
-pub held-laws : SinkLaws held_fits Compares true
+pub held-laws : SinkLaws (λ (s : Held). None) Compares true
 unfolding begins
 held-laws = record {
-  nothing = λ s at. record { buffer = refl; same = sym (and-one s.same) };
-  joined = held-joined;
-  keeps = λ s t at xs n m f. tt;
-  fewer = λ s n k l f. tt;
-  unnamed = λ e s t at xs ys h m. absurd (true≢false e);
+  taken-nothing = λ s at. record { buffer = refl; same = sym (and-one s.same) };
+  taken-behind = held-joined;
+  room-kept = λ s t at xs m. refl;
+  taken-unnamed = λ e s t at xs ys h m. absurd (true≢false e);
 }

@@ -1,33 +1,32 @@
 -- What sinks promise.
 -- Assumes nothing.
-use Rattle.std.specs.Prelude.{ℕ, ◌+◌, ◌≤◌, ◌≡◌, Bool, false, ◌&&◌, List, [], ◌++◌, length, drop}
+use Rattle.std.specs.Prelude.{ℕ, ◌+◌, ◌≤◌, ◌≡◌, Bool, false, ◌&&◌, List, [], ◌++◌, length, drop, Option, Some, None}
 use Rattle.std.proofs.lemmas.List.Edits.{sets}
 use Rattle.rules.specs.Lists.{begins}
 use Rattle.records.specs.declared.sink.Nowhere.{Nowhere}
 use Rattle.records.specs.declared.sink.Written.{Written}
 use Rattle.records.specs.declared.sink.Held.{Held}
 
--- words taken one behind the other are taken together; a sink keeps its room, and where more fits, less does; a sink that asks for no kinds takes
--- other words as well
-pub record SinkLaws {S : Type 0} (fits : S → ℕ → Type 0) (takes : S → S → ℕ → List ℕ → Type 0) (named : Bool) : Type 0 where
-  pub nothing : (s : S) (at : ℕ) → takes s s at []
-  pub joined : (s t u : S) (at : ℕ) (xs ys : List ℕ) → takes s t at xs → takes t u (at + length xs) ys → takes s u at (xs ++ ys)
-  pub keeps : (s t : S) (at : ℕ) (xs : List ℕ) (n : ℕ) → takes s t at xs → fits s n → fits t n
-  pub fewer : (s : S) (n k : ℕ) → k ≤ n → fits s n → fits s k
-  pub unnamed : named ≡ false → (s t : S) (at : ℕ) (xs ys : List ℕ) → length xs ≡ length ys → takes s t at xs → takes s t at ys
+-- room for so many words holds the words before an index; what has no index asks for a sink without bound
+abbrev pub Fits : (room index : Option ℕ) → Type 0
+Fits None i = Unit {0}
+Fits (Some n) (Some i) = i ≤ n
+Fits (Some n) None = ⊥
+
+-- no words are taken as they are; words taken one behind the other are taken together; the room stays; a sink that asks for no kinds takes other
+-- words as well
+pub record SinkLaws {S : Type 0} (room : S → Option ℕ) (takes : S → S → ℕ → List ℕ → Type 0) (named : Bool) : Type 0 where
+  pub taken-nothing : (s : S) (at : ℕ) → takes s s at []
+  pub taken-behind : (s t u : S) (at : ℕ) (xs ys : List ℕ) → takes s t at xs → takes t u (at + length xs) ys → takes s u at (xs ++ ys)
+  pub room-kept : (s t : S) (at : ℕ) (xs : List ℕ) → takes s t at xs → room t ≡ room s
+  pub taken-unnamed : named ≡ false → (s t : S) (at : ℕ) (xs ys : List ℕ) → length xs ≡ length ys → takes s t at xs → takes s t at ys
 
 -- Nothing is kept.
-
-abbrev pub nowhere_fits : Nowhere → ℕ → Type 0
-nowhere_fits s n = Unit {0}
 
 abbrev pub NowhereTakes : Nowhere → Nowhere → ℕ → List ℕ → Type 0
 NowhereTakes s t at xs = Unit {0}
 
 -- The words are written.
-
-abbrev pub written_fits : Written → ℕ → Type 0
-written_fits s n = n ≤ length s.words.now
 
 -- they stand from that index on, in the same buffer
 pub record Writes (s t : Written) (at : ℕ) (xs : List ℕ) : Type 0 where
@@ -35,9 +34,6 @@ pub record Writes (s t : Written) (at : ℕ) (xs : List ℕ) : Type 0 where
   pub written : t.words.now ≡ sets s.words.now at xs
 
 -- The words are compared.
-
-abbrev pub held_fits : Held → ℕ → Type 0
-held_fits s n = Unit {0}
 
 -- whether they were the same so far, and are those of the buffer from that index on
 pub record Compares (s t : Held) (at : ℕ) (xs : List ℕ) : Type 0 where

@@ -1,10 +1,11 @@
 // The words of a token record and of a line record: given to a sink, loaded and compared.
 #![tactic(auto)]
 
-ghost use Rattle.std.specs.Prelude.{◌≡◌, true, ◌+◌, ◌*◌, ◌≤◌, ◌<◌, length, drop};
+ghost use Rattle.std.specs.Prelude.{◌≡◌, true, ◌+◌, ◌*◌, ◌≤◌, ◌<◌, length, drop, Some};
 ghost use Rattle.rules.specs.Lists.{begins, same};
 ghost use Rattle.rules.specs.Limits.{max_levels};
 ghost use Rattle.rules.specs.Records.{line_size, token_size, state_words, line_record};
+ghost use Rattle.records.specs.Sinks.{Fits};
 ghost use Rattle.records.specs.Words.{words_at, line_word, state_in, state_from};
 
 pub mod sink;
@@ -37,17 +38,14 @@ pub struct Counts {
 
 // The line's token n, at this offset of the line: kind, position, length, line, column.
 pub fn put_token<S: Sink>(tokens: &mut S, place: Place, n: usize, kind: u32, offset: u32, size: u32)
-    requires offset_bound { (place.start + offset ≤ 1_048_576) × ((place.line ≤ 4_194_304) × (place.first + n ≤ 16_777_216)) }
-    requires fits { S.fits tokens.old (token_size * (place.first + n) + token_size) }
+    requires offset_bound { (place.start + offset ≤ 1_048_576) × (place.line ≤ 4_194_304) }
+    requires fits { Fits (S.room tokens.old) (Some (token_size * (place.first + n) + token_size)) }
     ensures { S.takes tokens.old tokens.new (token_size * (place.first + n)) (words_at place offset kind size) }
 {
     let position = place.start + offset;
     let number = place.line as u32 + 1;
     let column = offset + 1;
-    tokens.put(
-        TOKEN * (place.first + n),
-        &[kind, position, size, number, column],
-    );
+    tokens.put(place.first, n, &[kind, position, size, number, column]);
 }
 
 // The words from an index on begin with these.
@@ -74,11 +72,11 @@ fn line_words(place: Place, state: &State) -> [u32; LINE]
 
 // The line's record.
 pub fn put_line<S: Sink>(lines: &mut S, place: Place, state: &State)
-    requires first_bound { (place.line ≤ 4_194_304) × (place.first ≤ 4_194_304) }
-    requires fits { S.fits lines.old (line_size * place.line + line_size) }
+    requires first_bound { place.first ≤ 4_194_304 }
+    requires fits { Fits (S.room lines.old) (Some (line_size * place.line + line_size)) }
     ensures { S.takes lines.old lines.new (line_size * place.line) (line_record place.start place.first state.now) }
 {
-    lines.put(LINE * place.line, &line_words(place, state));
+    lines.put(place.line, 0, &line_words(place, state));
 }
 
 // The state in line record i.

@@ -1,24 +1,25 @@
 // What becomes of the words of the records that a pass over lines gives.
-ghost use Rattle.std.specs.Prelude.{◌≡◌, true, ℕ, Bool, List, ◌+◌, length};
-ghost use Rattle.records.specs.Sinks.{SinkLaws};
+ghost use Rattle.std.specs.Prelude.{◌≡◌, true, ℕ, Bool, List, ◌+◌, ◌*◌, ◌≤◌, length, Option, Some};
+ghost use Rattle.records.specs.Sinks.{Fits, SinkLaws};
 
 // Where the words of records go.
 pub trait Sink {
-    // there is room for words before this index
-    ghost fits: { Self → ℕ → Type 0 };
+    // which kind a word has is asked for
+    ghost named: { Bool };
+
+    // for how many words there is room; None, where there is no bound
+    ghost room: { Self → Option ℕ };
 
     // the sink before and after, and the words that it takes from an index on
     ghost takes: { Self → Self → ℕ → List ℕ → Type 0 };
 
-    // which kind a word has is asked for
-    ghost named: { Bool };
+    ghost laws: { SinkLaws room takes named };
 
-    ghost laws: { SinkLaws fits takes named };
-
-    // These words, from an index on.
-    fn put(&mut self, at: usize, words: &[u32])
-        requires { fits self.old (at + length words.now) }
-        ensures { takes self.old self.new at words.now };
+    // The words of the record that is n records behind this one.
+    fn put(&mut self, first: usize, n: usize, words: &[u32])
+        requires some { 1 ≤ length words.now }
+        requires fits { Fits (room self.old) (Some (length words.now * (first + n) + length words.now)) }
+        ensures { takes self.old self.new (length words.now * (first + n)) words.now };
 
     // Whether the kinds of words are asked for.
     fn is_named(&self) -> bool
@@ -30,19 +31,19 @@ pub trait Sink {
 pub struct Nowhere;
 
 impl Sink for Nowhere {
-    ghost use Rattle.std.specs.Prelude.{false};
-    ghost use Rattle.records.specs.Sinks.{nowhere_fits, NowhereTakes};
+    ghost use Rattle.std.specs.Prelude.{false, None};
+    ghost use Rattle.records.specs.Sinks.{NowhereTakes};
     ghost use Rattle.records.specs.SinkLaws.{nowhere-laws};
-
-    ghost fits = { nowhere_fits };
-
-    ghost takes = { NowhereTakes };
 
     ghost named = { false };
 
+    ghost room = { λ s. None };
+
+    ghost takes = { NowhereTakes };
+
     ghost laws = { nowhere-laws };
 
-    fn put(&mut self, _at: usize, _words: &[u32]) {}
+    fn put(&mut self, _first: usize, _n: usize, _words: &[u32]) {}
 
     fn is_named(&self) -> bool {
         false
@@ -65,19 +66,20 @@ impl<'a> Written<'a> {
 }
 
 impl Sink for Written<'_> {
-    ghost use Rattle.std.specs.Prelude.{true};
-    ghost use Rattle.records.specs.Sinks.{written_fits, Writes};
+    ghost use Rattle.std.specs.Prelude.{true, Some, length};
+    ghost use Rattle.records.specs.Sinks.{Writes};
     ghost use Rattle.records.specs.SinkLaws.{written-laws};
-
-    ghost fits = { written_fits };
-
-    ghost takes = { Writes };
 
     ghost named = { true };
 
+    ghost room = { λ s. Some (length s.words.now) };
+
+    ghost takes = { Writes };
+
     ghost laws = { written-laws };
 
-    fn put(&mut self, at: usize, words: &[u32]) {
+    fn put(&mut self, first: usize, n: usize, words: &[u32]) {
+        let at = words.len() * (first + n);
         self.words[at..at + words.len()].copy_from_slice(words);
     }
 
@@ -109,19 +111,21 @@ impl<'a> Held<'a> {
 }
 
 impl Sink for Held<'_> {
-    ghost use Rattle.std.specs.Prelude.{true};
-    ghost use Rattle.records.specs.Sinks.{held_fits, Compares};
+    ghost use Rattle.std.specs.Prelude.{true, None};
+    ghost use Rattle.records.specs.Sinks.{Compares};
     ghost use Rattle.records.specs.SinkLaws.{held-laws};
-
-    ghost fits = { held_fits };
-
-    ghost takes = { Compares };
 
     ghost named = { true };
 
+    ghost room = { λ s. None };
+
+    ghost takes = { Compares };
+
     ghost laws = { held-laws };
 
-    fn put(&mut self, at: usize, words: &[u32]) {
+    // An index that is no number is beyond the buffer.
+    fn put(&mut self, first: usize, n: usize, words: &[u32]) {
+        let at = words.len().saturating_mul(first.saturating_add(n));
         self.same = self.same && super::same_words(self.words, at, words);
     }
 

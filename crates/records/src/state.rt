@@ -17,7 +17,7 @@ pub const STATE: usize = 19;
 
 // The depth of the open brackets, whether the last token is an arrow, and the widths of the open levels, outermost first; a width past them is 0, as
 // in a line record.
-#[derive(Drop)]
+#[derive(Clone, Copy)]
 pub struct State {
     depth: u32,
     arrow: bool,
@@ -26,16 +26,22 @@ pub struct State {
 }
 
 impl Model for State {
-    ghost use Rattle.std.specs.Prelude.{◌≡◌, ◌≤◌, take};
+    ghost use Rattle.std.specs.Prelude.{ℕ, List, ◌≡◌, ◌≤◌, take, length};
+    ghost use Rattle.std.proofs.Common.{ap₂, sym};
     ghost use Rattle.rules.specs.Line as RulesLine;
     ghost use Rattle.rules.specs.Limits.{max_levels};
     ghost use Rattle.rules.specs.Records.{packed};
+    ghost use Rattle.records.specs.StateLaws.{levels-kept};
 
     ghost Value = { RulesLine.State };
 
     ghost view = { λ s. record { depth = s.depth; arrow = s.arrow; widths = take s.levels s.widths } };
 
     ghost invariant = { λ s. (s.levels ≤ max_levels) × (s.widths ≡ packed (take s.levels s.widths)) };
+
+    ghost inverse = { λ v. record { depth = v.depth; arrow = v.arrow; levels = length v.widths; widths = packed v.widths } };
+
+    ghost inverse_ok = { λ s h. ap₂ (λ (n : ℕ) (ws : List ℕ). record { depth = s.depth; arrow = s.arrow; levels = n; widths = ws }) (levels-kept s.levels s.widths h.0 h.1) (sym h.1) };
 }
 
 impl State {

@@ -1,28 +1,28 @@
 -- The loop that reads on: what holds so far, one line more, and each end.
 -- Assumes nothing.
-use Rattle.std.proofs.Common.{ℕ, ◌≡◌, ◌+◌, ◌*◌, ◌≤◌, ◌<◌, sym, ◌∙◌, Bool, true, false, List, [], ◌∷◌, ◌++◌, length, arith, Result, Ok, Err}
+use Rattle.std.proofs.Common.{ℕ, ◌≡◌, ◌+◌, ◌*◌, ◌≤◌, ◌<◌, sym, ◌∙◌, Bool, true, false, List, [], ◌∷◌, ◌++◌, length, arith, Option, Some, Result, Ok, Err}
 use Rattle.rules.specs.Line.{State, read_line}
 use Rattle.rules.specs.Limits.{max_levels, LineLimits}
 use Rattle.rules.specs.Reading.{Entry, entry, lines_of, read_from, byte_sum, token_sum, line_at, size_at}
 use Rattle.rules.specs.Records.{line_size, token_size, line_record, line_records, token_records}
 use Rattle.rules.proofs.LoopLaws.{read-end}
-use Rattle.records.specs.Sinks.{SinkLaws}
+use Rattle.records.specs.Sinks.{Fits, SinkLaws}
 use Rattle.records.specs.declared.Counts.{Counts}
 use Rattle.records.specs.declared.Place.{Place}
 use Rattle.records.proofs.Takes.{then-takes}
 use Rattle.refusals.specs.declared.Unread.{Unread}
-use Rattle.line.specs.LineCuts.{tokens_in, Room, Taken}
+use Rattle.line.specs.LineCuts.{tokens_in, tokens_end, state_left, Taken}
 use Rattle.lines.specs.Steps.{StepIs}
 use Rattle.lines.specs.declared.Next.{Next}
 use Rattle.lines.proofs.Lines.{grown, size-inside, next-pass}
 use Rattle.rereading.specs.Words.{stops_at}
 use Rattle.rereading.specs.Rereads.{RereadIs}
-use Rattle.rereading.specs.Sinks.{RoomFrom, Few, AllTaken}
+use Rattle.rereading.specs.Sinks.{line_records_end, token_records_end, Few, AllTaken}
 use Rattle.rereading.specs.declared.StopRule.{StopRule}
 use Rattle.rereading.specs.declared.Reached.{Reached}
 use Rattle.rereading.specs.declared.Reached.TheVariants.{Stop, End}
 use Rattle.rereading.proofs.Rereads.{ComeTo, ComparedWith, come_start, stopped, next_come, halted, ended}
-use Rattle.rereading.proofs.Rooms.{line_place, line_then, token_place, token_then, few-next, room-next}
+use Rattle.rereading.proofs.Rooms.{line_place, line_then, token_place, token_then, few-next, line-room-next, token-room-next}
 
 -- where the next line's records go
 abbrev pub place-after : Place → Counts → Place
@@ -46,11 +46,11 @@ pub record Loop (lim : LineLimits) (text old : List ℕ) (stop : StopRule) (plac
 module _ {lim : LineLimits} {text old : List ℕ} {stop : StopRule} {place : Place} {z₀ : State} {S : Type 0} {takes : S → S → ℕ → List ℕ → Type 0} {lines₀ tokens₀ : S}
     (text_bound : (place.start + length text ≤ 1_048_576) × ((place.line ≤ place.start) × ((stop.from ≤ stop.count) × (stop.end ≤ 4_294_967_295))))
     (state_bound : (z₀.depth ≤ place.start) × (length z₀.widths ≤ max_levels)) where
-  pub begun : {fits : S → ℕ → Type 0} {named : Bool} → SinkLaws fits takes named
+  pub begun : {room : S → Option ℕ} {named : Bool} → SinkLaws room takes named
       → Loop lim text old stop place z₀ takes lines₀ tokens₀ (record { bytes = 0; lines = 0; tokens = 0 }) stop.from z₀ lines₀ tokens₀
   unfolding line_records token_records
   begun laws =
-      record { es = []; come = come_start z₀ state_bound.1 text_bound.1.1.0; line-words = laws.nothing lines₀ (line_size * place.line); token-words = laws.nothing tokens₀ (token_size * place.first) }
+      record { es = []; come = come_start z₀ state_bound.1 text_bound.1.1.0; line-words = laws.taken-nothing lines₀ (line_size * place.line); token-words = laws.taken-nothing tokens₀ (token_size * place.first) }
 
   module _ {c : Counts} {j : ℕ} {z : State} {lines tokens : S} (l : Loop lim text old stop place z₀ takes lines₀ tokens₀ c j z lines tokens) where
     pub far : (place.start + c.bytes ≤ 1_048_576) × (place.line + c.lines ≤ 1_048_576) × (z.depth ≤ 1_048_576) × (c.tokens ≤ 3_000_000)
@@ -71,9 +71,13 @@ module _ {lim : LineLimits} {text old : List ℕ} {stop : StopRule} {place : Pla
       pub next-few : Few (read_from lim z₀ (lines_of text)) place.first → place.first + c.tokens ≤ 3_000_000
       next-few f = few-next l.come.pass h place.first f far.3
 
-      pub room_next : {fits : S → ℕ → Type 0} {named : Bool} → SinkLaws fits takes named → RoomFrom (fits lines₀) (fits tokens₀) place (read_from lim z₀ (lines_of text))
-          → fits lines (line_size * (place.line + c.lines) + line_size) × Room (fits tokens) (place-after place c) (tokens_in (read_line lim z (line_at text c.bytes)))
-      room_next laws = room-next l.come.pass h laws place l.line-words l.token-words
+      pub line_room : {room : S → Option ℕ} {named : Bool} → SinkLaws room takes named → Fits (room lines₀) (line_records_end place (read_from lim z₀ (lines_of text)))
+          → Fits (room lines) (Some (line_size * (place.line + c.lines) + line_size))
+      line_room laws = line-room-next l.come.pass h laws place l.line-words
+
+      pub token_room : {room : S → Option ℕ} {named : Bool} → SinkLaws room takes named → Fits (room tokens₀) (token_records_end place (read_from lim z₀ (lines_of text)))
+          → Fits (room tokens) (tokens_end (place-after place c) (tokens_in (read_line lim z (line_at text c.bytes))))
+      token_room laws = token-room-next l.come.pass h laws place l.token-words
 
       pub smaller : {z' : State} (n : Next) → NextIs lim text old stop place z₀ c z z' (Ok n) → (c.bytes < n.at) × (n.at ≤ length text) × (c.tokens + n.tokens ≤ 3_000_000)
       smaller n x =
@@ -83,14 +87,14 @@ module _ {lim : LineLimits} {text old : List ℕ} {stop : StopRule} {place : Pla
 
       -- the levels are few
       module _ (few : lim.levels ≤ max_levels) where
-        pub breaks : (z' : State) (u : Unread) → NextIs lim text old stop place z₀ c z z' (Err u) → Answers lim text old stop place z₀ z' (Err u)
-        breaks z' u x = halted l.come few h x.0 x.1 u x.2 z'
+        pub breaks : (z' : State) (u : Unread) → NextIs lim text old stop place z₀ c z z' (Err u) → z' ≡ state_left lim z (line_at text c.bytes) → Answers lim text old stop place z₀ z' (Err u)
+        breaks z' u x e = halted l.come few h x.0 x.1 u x.2 z' e
 
         module _ (r : ℕ) (hr : ComparedWith lim text old place.start place.line stop.count stop.from stop.end stop.kept z₀ c.bytes j r) (hm : r ≤ stop.count) where
-          pub stops : {b : Bool} → b ≡ stops_at old r stop.end stop.kept (place.start + c.bytes) z → b ≡ true → (left : State) → Answers lim text old stop place z₀ left (Ok (Stop c r))
+          pub stops : {b : Bool} → b ≡ stops_at old r stop.end stop.kept (place.start + c.bytes) z → b ≡ true → Answers lim text old stop place z₀ z (Ok (Stop c r))
           stops a e = stopped l.come few h r hr hm (sym a ∙ e)
 
-          pub goes_on : {fits : S → ℕ → Type 0} {named : Bool} → SinkLaws fits takes named → {b : Bool} → b ≡ stops_at old r stop.end stop.kept (place.start + c.bytes) z → b ≡ false → {z' : State} (n : Next) → NextIs lim text old stop place z₀ c z z' (Ok n)
+          pub goes_on : {room : S → Option ℕ} {named : Bool} → SinkLaws room takes named → {b : Bool} → b ≡ stops_at old r stop.end stop.kept (place.start + c.bytes) z → b ≡ false → {z' : State} (n : Next) → NextIs lim text old stop place z₀ c z z' (Ok n)
               → {lines' tokens' : S} → takes lines lines' (line_size * (place.line + c.lines)) (line_record (place.start + c.bytes) (place.first + c.tokens) z)
               → Taken (takes tokens tokens') (place-after place c) (tokens_in (read_line lim z (line_at text c.bytes)))
               → Loop lim text old stop place z₀ takes lines₀ tokens₀ (record { bytes = n.at; lines = c.lines + 1; tokens = c.tokens + n.tokens }) r z' lines' tokens'

@@ -2,7 +2,7 @@
 -- Assumes nothing.
 use Prim.Native.Nat.{ℕ, suc, ◌+◌, ◌-◌, ◌≤◌, ◌<◌}
 use Rattle.std.specs.Prelude.{Ok, Err}
-use mathlib.Core.Path.{◌≡◌, sym, ap, subst, ◌∙◌}
+use mathlib.Core.Path.{◌≡◌, refl, sym, ap, subst, ◌∙◌}
 use mathlib.Core.Bool.{true, false, ◌&&◌}
 use mathlib.Core.List.{List, [], ◌∷◌, ◌++◌}
 use mathlib.Core.Logic.{⊎_elim}
@@ -30,8 +30,9 @@ use Rattle.records.specs.declared.Counts.{Counts}
 use Rattle.lines.proofs.Lines.{PassTo, pass-start, next-pass}
 use Rattle.refusals.specs.declared.Unread.{Unread}
 use Rattle.records.specs.Words.{start_word, state_in}
+use Rattle.line.specs.LineCuts.{state_left}
 use Rattle.rereading.specs.Words.{old_byte, FirstFrom, stops_at}
-use Rattle.rereading.specs.Rereads.{Old, Counted, Lines, HaltsAs, RereadIs}
+use Rattle.rereading.specs.Rereads.{Old, Counted, Lines, HaltsAs, HaltsIn, RereadIs}
 use Rattle.rereading.specs.declared.Reached.TheVariants.{Stop, End}
 use Rattle.rereading.proofs.Words.{stop-near, stop-here}
 use Rattle.rereading.proofs.OldLines.{start_is, state-is, levels-at, found, kept_from_lem, same_sym}
@@ -127,8 +128,8 @@ module _ {lim : LineLimits} {rest lines : List ℕ} {base i m from b kept : ℕ}
 
   module _ (h : q < length rest) (r : ℕ) (hr : ComparedWith lim rest lines base i m from b kept z₀ q j r) (hm : r ≤ m) where
     -- it stops here
-    pub stopped : stops_at lines r b kept (base + q) z ≡ true → (left : State) → RereadIs lim rest lines base i m from b kept z₀ left (Ok (Stop at r))
-    stopped e left =
+    pub stopped : stops_at lines r b kept (base + q) z ≡ true → RereadIs lim rest lines base i m from b kept z₀ z (Ok (Stop at r))
+    stopped e =
         let x = and-true (ltb kept (base + q)) (eqb (start_word lines r) (old_byte b kept (base + q)) && same (state_in lines r) (state_words z)) e in
         let y = and-true (eqb (start_word lines r) (old_byte b kept (base + q))) (same (state_in lines r) (state_words z)) x.1 in
         let far : kept < base + q = ltb-true kept (base + q) x.0 in (
@@ -144,6 +145,7 @@ module _ {lim : LineLimits} {rest lines : List ℕ} {base i m from b kept : ℕ}
                 n.0,
                 n.1,
               ),
+          refl,
         )
 
     -- the next line is read
@@ -186,11 +188,19 @@ module _ {lim : LineLimits} {rest lines : List ℕ} {base i m from b kept : ℕ}
           omega (arith, length-append (take i o.entries) es, v.pass.count, n, o.i-is, ap (λ (n : ℕ). length (take n o.entries)) o.i-is),
         )
 
-    pub halted : (u : Unread) → u ≡ unread_in (halt_refusal (base + q) (i + at.lines + 1) x) → (left : State) → RereadIs lim rest lines base i m from b kept z₀ left (Err u)
-    halted u e left =
+    pub halted : (u : Unread) → u ≡ unread_in (halt_refusal (base + q) (i + at.lines + 1) x) → (left : State) → left ≡ state_left lim z (line_at rest q) → RereadIs lim rest lines base i m from b kept z₀ left (Err u)
+    halted u e left l =
         let here : base + byte_sum es ≡ base + q = omega (arith, v.pass.to.bytes) in
         let number : i + length es + 1 ≡ i + at.lines + 1 = omega (arith, v.pass.count) in (
-          (es, x, stuck, e ∙ (λ a. unread_in (halt_refusal (sym here a) (sym number a) x))),
+          record {
+            es = es;
+            halt = x;
+            before = z;
+            halts-are = stuck;
+            why = e ∙ (λ a. unread_in (halt_refusal (sym here a) (sym number a) x));
+            read-before = first-lines lim rest z₀ q (length es) es z v.pass.to refl;
+            left-is = l ∙ ap (λ (n : ℕ). state_left lim z (line_at rest n)) (sym v.pass.to.bytes);
+          },
           λ o.
               let y = stuck-old o in
               (take i o.entries ++ es, x, y.0, e ∙ (λ a. unread_in (halt_refusal (sym y.1 a) (sym y.2 a) x))),
@@ -209,6 +219,9 @@ module _ {lim : LineLimits} {rest lines : List ℕ} {base i m from b kept : ℕ}
   )
 
 -- A reading of the whole text.
+
+pub halts-as : {lim : LineLimits} {t : List ℕ} {z left : State} {base i : ℕ} {u : Unread} → HaltsIn lim t z base i left u → HaltsAs (read_from lim z (lines_of t)) base i u
+halts-as x = (x.es, x.halt, x.halts-are, x.why)
 
 pub halts-whole : {x : Reading} {u : Unread} → HaltsAs x 0 0 u
     → (es : List Entry) × (h : Halt) × (x ≡ halts es h) × (u ≡ unread_in (halt_refusal (byte_sum es) (suc (length es)) h))

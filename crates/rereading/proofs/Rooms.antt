@@ -5,7 +5,7 @@ use mathlib.Core.Path.{◌≡◌, refl, sym, ap, ◌∙◌}
 use mathlib.Core.Bool.{Bool}
 use mathlib.Core.List.{List, [], ◌∷◌, ◌++◌, append-nil}
 use mathlib.Core.Logic.{⊎_elim, inl}
-use Rattle.std.specs.Prelude.{Option, Some, None}
+use Rattle.std.specs.Prelude.{Option, Some}
 use native.Mathlib.Omega.{arith}
 use lib.ListN.{length, drop, length-append}
 use Rattle.rules.specs.Limits.{LineLimits}
@@ -15,12 +15,12 @@ use Rattle.rules.specs.Records.{line_size, token_size, line_record, line_records
 use Rattle.rules.proofs.ReadingLaws.{with_entries, with_entries-reads, with_entries-halts, token_sum_append}
 use Rattle.rules.proofs.RecordLaws.{line_records_append, length_line_records, token_records_append, length_token_records}
 use Rattle.rules.proofs.LoopLaws.{ReadTo, read-line, read-stuck, read-rest}
-use Rattle.records.specs.Sinks.{SinkLaws}
+use Rattle.records.specs.Sinks.{Fits, SinkLaws}
 use Rattle.records.specs.declared.Place.{Place}
-use Rattle.records.proofs.Takes.{fits_after}
-use Rattle.line.specs.LineCuts.{Room, tokens_in}
+use Rattle.records.proofs.Takes.{fits_after, fits-less, fits-endless}
+use Rattle.line.specs.LineCuts.{tokens_end, tokens_in}
 use Rattle.lines.proofs.Lines.{PassTo}
-use Rattle.rereading.specs.Sinks.{RoomFrom, Few}
+use Rattle.rereading.specs.Sinks.{line_records_end, token_records_end, Few}
 
 -- The records of one line more.
 
@@ -89,22 +89,24 @@ module _ {lim : LineLimits} {t : List ℕ} {z₀ z : State} {es : List Entry} {q
   few-next = next-few (read_from lim z₀ (lines_of t)) refl
 
   -- the room that the next line finds
-  module _ {S : Type 0} {fits : S → ℕ → Type 0} {takes : S → S → ℕ → List ℕ → Type 0} {named : Bool} (laws : SinkLaws fits takes named)
-      (p : Place) {lines₀ tokens₀ lines tokens : S} {i j : ℕ} {xs ys : List ℕ} (ml : takes lines₀ lines i xs) (mt : takes tokens₀ tokens j ys) where
-    next-room : (x : Reading) → read_from lim z₀ (lines_of t) ≡ x → RoomFrom (fits lines₀) (fits tokens₀) p x
-        → fits lines (line_size * (p.line + c) + line_size) × Room (fits tokens) (record { line = p.line + c; first = p.first + k; start = p.start + q }) (tokens_in (read_line lim z (line_at t q)))
-    next-room (reads all end) e r =
-        let n = next_of all end e in
-        (fits_after laws ml (omega (arith, n.3)) r.0, rw n.2 (fits_after laws mt (omega (arith, n.4)) r.1))
-    next-room (halts all x) e r = (laws.keeps lines₀ lines i xs _ ml (r.0 _), go (tokens_in (read_line lim z (line_at t q))))
-      where
-        go : (o : Option (List Token)) → Room (fits tokens) (record { line = p.line + c; first = p.first + k; start = p.start + q }) o
-        go (Some ts) = laws.keeps tokens₀ tokens j ys _ mt (r.1 _)
-        go None = λ n. laws.keeps tokens₀ tokens j ys n mt (r.1 n)
+  module _ {S : Type 0} {room : S → Option ℕ} {takes : S → S → ℕ → List ℕ → Type 0} {named : Bool} (laws : SinkLaws room takes named) (p : Place) {before after : S} {i : ℕ} {xs : List ℕ}
+      (m : takes before after i xs) where
+    line-room : (x : Reading) → read_from lim z₀ (lines_of t) ≡ x → Fits (room before) (line_records_end p x) → Fits (room before) (Some (line_size * (p.line + c) + line_size))
+    line-room (reads all end) e f = fits-less _ (omega (arith, (next_of all end e).3)) f
+    line-room (halts all x) e f = fits-endless _ _ f
 
-    pub room-next : RoomFrom (fits lines₀) (fits tokens₀) p (read_from lim z₀ (lines_of t))
-        → fits lines (line_size * (p.line + c) + line_size) × Room (fits tokens) (record { line = p.line + c; first = p.first + k; start = p.start + q }) (tokens_in (read_line lim z (line_at t q)))
-    room-next = next-room (read_from lim z₀ (lines_of t)) refl
+    pub line-room-next : Fits (room before) (line_records_end p (read_from lim z₀ (lines_of t))) → Fits (room after) (Some (line_size * (p.line + c) + line_size))
+    line-room-next f = fits_after laws _ m (line-room (read_from lim z₀ (lines_of t)) refl f)
+
+    abbrev next_place : Place
+    next_place = record { line = p.line + c; first = p.first + k; start = p.start + q }
+
+    token-room : (x : Reading) → read_from lim z₀ (lines_of t) ≡ x → Fits (room before) (token_records_end p x) → Fits (room before) (tokens_end next_place (tokens_in (read_line lim z (line_at t q))))
+    token-room (reads all end) e f = let n = next_of all end e in rw n.2 (fits-less _ (omega (arith, n.4)) f)
+    token-room (halts all x) e f = fits-endless _ _ f
+
+    pub token-room-next : Fits (room before) (token_records_end p (read_from lim z₀ (lines_of t))) → Fits (room after) (tokens_end next_place (tokens_in (read_line lim z (line_at t q))))
+    token-room-next f = fits_after laws _ m (token-room (read_from lim z₀ (lines_of t)) refl f)
 
 -- Where the first token has number 0, all have small numbers.
 pub few-zero : (x : Reading) → Few x 0

@@ -2,13 +2,14 @@
 -- Assumes nothing.
 use Rattle.std.specs.Prelude.{ℕ, ◌+◌, ◌≤◌, ◌<◌, ◌≡◌, List, ◌++◌, length, take, drop, Result, Ok, Err}
 use Rattle.rules.specs.Line.{State, initial, Halt}
-use Rattle.rules.specs.Reading.{lines_of, Entry, Reading, reads, halts, read_from, byte_sum, token_sum}
+use Rattle.rules.specs.Reading.{lines_of, Entry, Reading, reads, halts, read_from, byte_sum, token_sum, line_at}
 use Rattle.rules.specs.Limits.{LineLimits}
 use Rattle.rules.specs.Records.{halt_refusal, line_need, line_records, with_end}
 use Rattle.rules.specs.StopRule.{Edit, edited, kept_from, reread_count, from_line, from_byte, from_state}
 use Rattle.refusals.specs.Unreads.{unread_in}
 use Rattle.refusals.specs.declared.Unread.{Unread}
 use Rattle.records.specs.Words.{start_word}
+use Rattle.line.specs.LineCuts.{state_left}
 use Rattle.records.specs.declared.Counts.{Counts}
 use Rattle.rereading.specs.Words.{old_byte}
 use Rattle.rereading.specs.declared.Reached.{Reached}
@@ -52,8 +53,18 @@ pub record Lines (lim : LineLimits) (text : List ℕ) (z : State) (c : Counts) :
 abbrev pub HaltsAs : Reading → (base i : ℕ) → Unread → Type 0
 HaltsAs x base i u = (es : List Entry) × (h : Halt) × (x ≡ halts es h) × (u ≡ unread_in (halt_refusal (base + byte_sum es) (i + length es + 1) h))
 
+-- and in the line that does not read this state is left
+pub record HaltsIn (lim : LineLimits) (text : List ℕ) (z : State) (base i : ℕ) (left : State) (u : Unread) : Type 0 where
+  pub es : List Entry
+  pub halt : Halt
+  pub before : State
+  pub halts-are : read_from lim z (lines_of text) ≡ halts es halt
+  pub why : u ≡ unread_in (halt_refusal (base + byte_sum es) (i + length es + 1) halt)
+  pub read-before : read_from lim z (take (length es) (lines_of text)) ≡ reads es before
+  pub left-is : left ≡ state_left lim before (line_at text (byte_sum es))
+
 module _ (lim : LineLimits) (rest lines : List ℕ) (base i m from b kept : ℕ) (z : State) where
-  -- a stop at the old line j, or the end in the state `left`, after so many bytes, lines and tokens; or why a line does not read. On a faithful
+  -- a stop at the old line j, or the end, in the state `left`, after so many bytes, lines and tokens; or why a line does not read. On a faithful
   -- page it is what a fresh reading of the edited text gives.
   abbrev pub RereadIs : (left : State) → Result Reached Unread → Type 0
   RereadIs left (Ok (Stop c j)) =
@@ -62,6 +73,7 @@ module _ (lim : LineLimits) (rest lines : List ℕ) (base i m from b kept : ℕ)
       × ((o : Old lim rest lines base i m from b kept z)
       → (read_from lim initial (lines_of (edited o.text o.ed)) ≡ reads (take i o.entries ++ (x.es ++ drop j o.entries)) o.end)
       × (reread_count lim o.text o.ed ≡ c.lines) × (byte_sum (take j o.entries) ≡ old_byte b kept (base + c.bytes)) × (j < length o.entries))
+      × (left ≡ x.after)
   RereadIs left (Ok (End c)) =
       (es : List Entry)
       × Counted c es
@@ -71,5 +83,5 @@ module _ (lim : LineLimits) (rest lines : List ℕ) (base i m from b kept : ℕ)
       → (read_from lim initial (lines_of (edited o.text o.ed)) ≡ reads (take i o.entries ++ es) left)
       × (reread_count lim o.text o.ed ≡ c.lines))
   RereadIs left (Err u) =
-      HaltsAs (read_from lim z (lines_of rest)) base i u
+      HaltsIn lim rest z base i left u
       × ((o : Old lim rest lines base i m from b kept z) → HaltsAs (read_from lim initial (lines_of (edited o.text o.ed))) 0 0 u)

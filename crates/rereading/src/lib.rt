@@ -5,10 +5,11 @@ ghost use Rattle.std.specs.Prelude.{◌≡◌, true, ◌+◌, ◌-◌, ◌*◌, 
 ghost use Rattle.rules.specs.Reading.{lines_of, read_from};
 ghost use Rattle.rules.specs.Limits.{max_levels};
 ghost use Rattle.rules.specs.Records.{line_size};
+ghost use Rattle.records.specs.Sinks.{Fits};
 ghost use Rattle.refusals.specs.Limits.{line_limits_of};
 ghost use Rattle.rereading.specs.Words.{old_byte, FirstFrom, stops_at};
 ghost use Rattle.rereading.specs.Rereads.{RereadIs};
-ghost use Rattle.rereading.specs.Sinks.{RoomFrom, Few, AllTaken, AtEnd, EndIs};
+ghost use Rattle.rereading.specs.Sinks.{line_records_end, token_records_end, Few, AllTaken, AtEnd, EndIs};
 
 use records::{Counts, Place, Sink, State};
 use refusals::{LineLimits, Unread};
@@ -98,7 +99,8 @@ pub fn read_on<S: Sink>(
     requires count_bound { (stop.count ≤ 4_294_967_295) × (line_size * (stop.count + 1) ≤ length old.now) }
     requires state_bound { (state.old.depth ≤ place.start) × (length state.old.widths ≤ max_levels) }
     requires few { Few (read_from (line_limits_of limits) state.old (lines_of text.now)) place.first }
-    requires room { RoomFrom (S.fits lines.old) (S.fits tokens.old) place (read_from (line_limits_of limits) state.old (lines_of text.now)) }
+    requires line_room { Fits (S.room lines.old) (line_records_end place (read_from (line_limits_of limits) state.old (lines_of text.now))) }
+    requires token_room { Fits (S.room tokens.old) (token_records_end place (read_from (line_limits_of limits) state.old (lines_of text.now))) }
     ensures reread_is { RereadIs (line_limits_of limits) text.now old.now place.start place.line stop.count stop.from stop.end stop.kept state.old state.new result }
     ensures taken { AtEnd (AllTaken (S.takes lines.old lines.new) (S.takes tokens.old tokens.new) place (read_from (line_limits_of limits) state.old (lines_of text.now))) result }
 {
@@ -142,8 +144,9 @@ pub fn read_to_end<S: Sink>(
     requires text_bound { (place.start + length text.now ≤ 1_048_576) × (place.line ≤ place.start) }
     requires state_bound { (state.old.depth ≤ place.start) × (length state.old.widths ≤ max_levels) }
     requires few { Few (read_from (line_limits_of limits) state.old (lines_of text.now)) place.first }
-    requires room { RoomFrom (S.fits lines.old) (S.fits tokens.old) place (read_from (line_limits_of limits) state.old (lines_of text.now)) }
-    ensures end_is { EndIs (read_from (line_limits_of limits) state.old (lines_of text.now)) place.start place.line state.new result }
+    requires line_room { Fits (S.room lines.old) (line_records_end place (read_from (line_limits_of limits) state.old (lines_of text.now))) }
+    requires token_room { Fits (S.room tokens.old) (token_records_end place (read_from (line_limits_of limits) state.old (lines_of text.now))) }
+    ensures end_is { EndIs (line_limits_of limits) text.now state.old place.start place.line state.new result }
     ensures taken { AllTaken (S.takes lines.old lines.new) (S.takes tokens.old tokens.new) place (read_from (line_limits_of limits) state.old (lines_of text.now)) }
 {
     let none = [0; records::LINE];

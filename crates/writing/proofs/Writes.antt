@@ -1,6 +1,6 @@
 -- What the writes of a plan come to.
 -- Assumes nothing.
-use Rattle.std.proofs.Common.{ℕ, zero, suc, ◌≡◌, ◌+◌, ◌-◌, ◌*◌, ◌≤◌, refl, sym, ap, ◌∙◌, Bool, true, false, List, [], ◌∷◌, ◌++◌, is_some, Result, Ok, Err, length, take, drop, inr, arith}
+use Rattle.std.proofs.Common.{ℕ, zero, suc, ◌≡◌, ◌+◌, ◌-◌, ◌*◌, ◌≤◌, refl, sym, ap, ◌∙◌, Bool, true, false, List, [], ◌∷◌, ◌++◌, is_some, Some, Result, Ok, Err, length, take, drop, inr, arith}
 use lib.Seq.{sets, take-nil}
 use Rattle.laws.proofs.Sets.{sets_before}
 use Rattle.rules.specs.Lists.{bit}
@@ -11,7 +11,9 @@ use Rattle.rules.specs.Records.{line_size, token_size, line_record, line_records
 use Rattle.rules.proofs.LineLaws.{total, next}
 use Rattle.rules.proofs.ReadingLaws.{read-sizes}
 use Rattle.rules.proofs.RecordLaws.{length_line_records, length_token_records}
-use Rattle.records.specs.Sinks.{SinkLaws}
+use Rattle.records.specs.Sinks.{Fits, Writes}
+use Rattle.records.specs.SinkLaws.{written-laws}
+use Rattle.records.specs.declared.sink.Written.{Written}
 use Rattle.records.specs.Words.{state_from}
 use Rattle.records.specs.declared.Counts.{Counts}
 use Rattle.records.specs.declared.Place.{Place}
@@ -20,7 +22,7 @@ use Rattle.refusals.specs.Limits.{line_of, limits_of}
 use Rattle.refusals.specs.declared.Limits.{Limits}
 use Rattle.refusals.specs.declared.Unread.{Unread}
 use Rattle.refusals.proofs.Barge.{barge-line}
-use Rattle.rereading.specs.Sinks.{RoomFrom, Few, AllTaken, EndIs}
+use Rattle.rereading.specs.Sinks.{line_records_end, token_records_end, Few, AllTaken, EndIs}
 use Rattle.rereading.proofs.Rooms.{line_place, line_then, token_place, token_then}
 use Rattle.plans.specs.Plans.{before_end, end_lines, end_tokens, moved_to, new_lines, reread, planned_lines, ReadsAs, Planned}
 use Rattle.plans.specs.declared.Plan.{Plan}
@@ -68,8 +70,11 @@ module _ (u : List ℕ) (z : State) {p : Plan} (r : ReadsAs p (reread u z p)) wh
 
   -- read under these limits, as the code has them
   module _ {lim : LineLimits} {limits : Limits} (lines_limits : lim ≡ line_of limits) (is-barge : limits_of limits ≡ barge) where
+    abbrev part : List ℕ
+    part = take (to.bytes - p.begin.bytes) (drop p.begin.bytes u)
+
     abbrev read : Reading
-    read = read_from lim z (lines_of (take (to.bytes - p.begin.bytes) (drop p.begin.bytes u)))
+    read = read_from lim z (lines_of part)
 
     read-is : read ≡ reads r.entries r.last
     read-is = (λ x. read_from ((lines_limits ∙ barge-line limits is-barge) x) z (part-lines x)) ∙ r.reads-are
@@ -78,45 +83,48 @@ module _ (u : List ℕ) (z : State) {p : Plan} (r : ReadsAs p (reread u z p)) wh
     few-tokens h = rw read-is (inr (omega (arith, h, r.tokens)))
 
     -- the state that is left
-    reached : {left : State} (a : Result Counts Unread) → EndIs read p.begin.bytes p.begin.lines left a → left ≡ r.last
+    reached : {left : State} (a : Result Counts Unread) → EndIs lim part z p.begin.bytes p.begin.lines left a → left ≡ r.last
     reached {left} (Ok c) v = let w : reads v.0 left ≡ reads r.entries r.last = sym v.1 ∙ read-is in cc
     reached (Err u) v =
-        let w : halts v.0 v.1 ≡ reads r.entries r.last = sym v.2 ∙ read-is in
+        let w : halts v.es v.halt ≡ reads r.entries r.last = sym v.halts-are ∙ read-is in
         let b : ◌≡◌ {A = ℕ} 0 1 = cc in
         absurd (omega arith)
 
     -- where the lines end: their counts are those of the plan
-    module _ {S : Type 0} {fits : S → ℕ → Type 0} {takes : S → S → ℕ → List ℕ → Type 0} {named : Bool} (laws : SinkLaws fits takes named) {l₀ t₀ : S}
-        (room : fits l₀ (line_size * to.lines) × fits t₀ (token_size * to.tokens)) where
-      pub room-from : RoomFrom (fits l₀) (fits t₀) place read
-      room-from = rw read-is (laws.fewer l₀ _ _ (omega (arith, r.lines)) room.0, laws.fewer t₀ _ _ (omega (arith, r.tokens)) room.1)
+    module _ (l₀ t₀ : Written) (room : (line_size * to.lines ≤ length l₀.words.now) × (token_size * to.tokens ≤ length t₀.words.now)) where
+      pub line-room-from : Fits (Some (length l₀.words.now)) (line_records_end place read)
+      line-room-from = rw read-is (omega (arith, r.lines, room.0))
 
-      module _ {l₁ t₁ : S} (m : AllTaken (takes l₀ l₁) (takes t₀ t₁) place read) {some : Bool} (end_is : some ≡ is_some p.end) where
-        taken : takes l₀ l₁ (line_size * p.begin.lines) (line_records p.begin.bytes p.begin.tokens r.entries) × takes t₀ t₁ (token_size * p.begin.tokens) (token_records p.begin.bytes (p.begin.lines + 1) r.entries)
+      pub token-room-from : Fits (Some (length t₀.words.now)) (token_records_end place read)
+      token-room-from = rw read-is (omega (arith, r.tokens, room.1))
+
+      module _ (l₁ t₁ : Written) (m : AllTaken (Writes l₀ l₁) (Writes t₀ t₁) place read) {some : Bool} (end_is : some ≡ is_some p.end) where
+        taken : Writes l₀ l₁ (line_size * p.begin.lines) (line_records p.begin.bytes p.begin.tokens r.entries) × Writes t₀ t₁ (token_size * p.begin.tokens) (token_records p.begin.bytes (p.begin.lines + 1) r.entries)
         taken = rw read-is at m
 
         -- the plan does not write the end
-        pub no-end : some ≡ false → takes l₀ l₁ (line_size * p.begin.lines) (line_records p.begin.bytes p.begin.tokens (new_lines p.end R))
-            × takes t₀ t₁ (token_size * p.begin.tokens) (token_records p.begin.bytes (p.begin.lines + 1) (new_lines p.end R))
+        pub no-end : some ≡ false → Writes l₀ l₁ (line_size * p.begin.lines) (line_records p.begin.bytes p.begin.tokens (new_lines p.end R))
+            × Writes t₀ t₁ (token_size * p.begin.tokens) (token_records p.begin.bytes (p.begin.lines + 1) (new_lines p.end R))
         no-end n = rw (r.reads-are, sym end_is ∙ n) taken
 
-        module _ (yes : some ≡ true) (left : State) (a : Result Counts Unread) (ends : EndIs read p.begin.bytes p.begin.lines left a) where
-          pub end-room : fits l₁ (line_size * at.lines + line_size) × fits t₁ (token_size * (at.tokens + length left.widths))
+        module _ (yes : some ≡ true) (left : State) (a : Result Counts Unread) (ends : EndIs lim part z p.begin.bytes p.begin.lines left a) where
+          pub end-room : (line_size * at.lines + line_size ≤ length l₁.words.now) × (token_size * (at.tokens + length left.widths) ≤ length t₁.words.now)
           end-room = (
-            fits_after laws taken.0 (omega (arith, ap bit (sym end_is ∙ yes))) room.0,
-            fits_after laws taken.1 (omega (arith, levels_are p R r (sym end_is ∙ yes), ap (λ (w : State). length w.widths) (reached a ends))) room.1,
+            fits_after written-laws (Some (line_size * at.lines + line_size)) taken.0 (omega (arith, ap bit (sym end_is ∙ yes), room.0)),
+            fits_after written-laws (Some (token_size * (at.tokens + length left.widths))) taken.1
+                (omega (arith, levels_are p R r (sym end_is ∙ yes), ap (λ (w : State). length w.widths) (reached a ends), room.1)),
           )
 
-          pub with-end-taken : {l₂ t₂ : S} → takes l₁ l₂ (line_size * at.lines) (line_record at.bytes at.tokens left) → takes t₁ t₂ (token_size * at.tokens) (token_words at.bytes (at.lines + 1) (dedents (length left.widths)))
-              → takes l₀ l₂ (line_size * p.begin.lines) (line_records p.begin.bytes p.begin.tokens (new_lines p.end R))
-              × takes t₀ t₂ (token_size * p.begin.tokens) (token_records p.begin.bytes (p.begin.lines + 1) (new_lines p.end R))
+          pub with-end-taken : {l₂ t₂ : Written} → Writes l₁ l₂ (line_size * at.lines) (line_record at.bytes at.tokens left) → Writes t₁ t₂ (token_size * at.tokens) (token_words at.bytes (at.lines + 1) (dedents (length left.widths)))
+              → Writes l₀ l₂ (line_size * p.begin.lines) (line_records p.begin.bytes p.begin.tokens (new_lines p.end R))
+              × Writes t₀ t₂ (token_size * p.begin.tokens) (token_records p.begin.bytes (p.begin.lines + 1) (new_lines p.end R))
           with-end-taken ml mt =
               let b : p.begin.bytes + byte_sum r.entries ≡ at.bytes = omega (arith, r.bytes) in
               let k : p.begin.tokens + token_sum r.entries ≡ at.tokens = omega (arith, r.tokens) in
               rw (r.reads-are, sym end_is ∙ yes) (
-                then-takes laws taken.0 (line_place p.begin.bytes p.begin.lines p.begin.tokens r.entries (end_entry r.last) p.read.lines at.bytes at.tokens r.lines b k) (rw (reached a ends) at ml)
+                then-takes written-laws taken.0 (line_place p.begin.bytes p.begin.lines p.begin.tokens r.entries (end_entry r.last) p.read.lines at.bytes at.tokens r.lines b k) (rw (reached a ends) at ml)
                     (line_then p.begin.bytes p.begin.lines p.begin.tokens r.entries (end_entry r.last) p.read.lines at.bytes at.tokens r.lines b k),
-                then-takes laws taken.1 (token_place p.begin.bytes p.begin.lines p.begin.tokens r.entries (end_entry r.last) p.read.lines at.bytes at.tokens r.lines b k) (rw (reached a ends) at mt)
+                then-takes written-laws taken.1 (token_place p.begin.bytes p.begin.lines p.begin.tokens r.entries (end_entry r.last) p.read.lines at.bytes at.tokens r.lines b k) (rw (reached a ends) at mt)
                     (token_then p.begin.bytes p.begin.lines p.begin.tokens r.entries (end_entry r.last) p.read.lines at.bytes at.tokens r.lines b k),
               )
 

@@ -5,21 +5,28 @@ ghost use Rattle.std.specs.Prelude.{◌≡◌, ◌+◌, ◌-◌, ◌*◌, ◌≤
 ghost use Rattle.std.proofs.lemmas.List.Edits.{sets};
 ghost use Rattle.rules.specs.Limits.{max_levels};
 ghost use Rattle.rules.specs.Records.{line_size, token_size, line_records, token_records};
+ghost use Rattle.records.specs.Sinks.{Writes};
 ghost use Rattle.plans.specs.Plans.{moved_to, reread, ReadsAs, new_lines, Planned, Roomy};
 ghost use Rattle.writing.specs.Writes.{line_tail, token_tail};
 
 use plans::Plan;
-use records::{Place, Sink, State, Written};
+use records::{Place, State, Written};
 use tables::Tables;
 
 // The lines of the edited text that a plan reads again, from the state before them, and the end where the plan writes it anew.
-fn write_lines<S: Sink>(edited: &[u8], lines: &mut S, tokens: &mut S, p: Plan, state: &mut State)
+fn write_lines<'a>(
+    edited: &[u8],
+    lines: &mut Written<'a>,
+    tokens: &mut Written<'a>,
+    p: Plan,
+    state: &mut State,
+)
     requires small { let to = moved_to p in (length edited.now ≤ 1_048_576) × ((to.bytes ≤ length edited.now) × ((to.lines ≤ 4_194_304) × (to.tokens ≤ 3_000_000))) }
     requires state_bound { (p.begin.lines ≤ p.begin.bytes) × ((state.old.depth ≤ p.begin.bytes) × (length state.old.widths ≤ max_levels)) }
     requires reads_as { ReadsAs p (reread edited.now state.old p) }
-    requires room { let to = moved_to p in S.fits lines.old (line_size * to.lines) × S.fits tokens.old (token_size * to.tokens) }
-    ensures lines_taken { S.takes lines.old lines.new (line_size * p.begin.lines) (line_records p.begin.bytes p.begin.tokens (new_lines p.end (reread edited.now state.old p))) }
-    ensures tokens_taken { S.takes tokens.old tokens.new (token_size * p.begin.tokens) (token_records p.begin.bytes (p.begin.lines + 1) (new_lines p.end (reread edited.now state.old p))) }
+    requires room { let to = moved_to p in (line_size * to.lines ≤ length lines.old.words.now) × (token_size * to.tokens ≤ length tokens.old.words.now) }
+    ensures lines_taken { Writes lines.old lines.new (line_size * p.begin.lines) (line_records p.begin.bytes p.begin.tokens (new_lines p.end (reread edited.now state.old p))) }
+    ensures tokens_taken { Writes tokens.old tokens.new (token_size * p.begin.tokens) (token_records p.begin.bytes (p.begin.lines + 1) (new_lines p.end (reread edited.now state.old p))) }
 {
     let tables = Tables::new();
     let limits = refusals::barge_limits().line();

@@ -29,18 +29,12 @@ cut_line-requires-clause-room g c =
     let m = c.put_leading-leading.ensures in
     room-inside g.S.Sink.laws a.lead a.line.now a.place m.value m.taken (cuts_from 0 0 a.line.now) c.requires.room
 
-pub put_token-requires-clause-offset_bound : goal.put_token-requires-clause-offset_bound
-put_token-requires-clause-offset_bound g c =
-    let b = c.requires.line_bound in
-    let n = few c.args.lead c.args.line.now c.depth.result _ c.in_ok-end.end c.requires.lead_bound.0 (omega (arith, b.0)) c.put_leading-leading.ensures.value c.in_ok-end.ensures.value in
-    (b.0, (b.1.0, omega (arith, n, b.1.1.0)))
-
 pub put_token-requires-clause-fits : goal.put_token-requires-clause-fits
 put_token-requires-clause-fits g c =
     let a = c.args in
     let m = c.put_leading-leading.ensures in
     let t = line-ends c.depth.result (cuts_from 0 0 a.line.now) c.in_ok-end.end c.in_ok-end.ensures.value in
-    room-end g.S.Sink.laws a.lead a.line.now a.place m.value m.taken t.0 t.2 (cuts_from 0 0 a.line.now) t.1 c.requires.room c.cut_line.ensures.taken
+    room-end g.S.Sink.laws a.lead a.line.now a.place m.value m.taken t.0 t.2 _ (cuts_from 0 0 a.line.now) t.1 c.requires.room c.cut_line.ensures.taken
 
 pub returns-clause-taken : goal.returns-clause-taken
 returns-clause-taken g c =

@@ -1,12 +1,13 @@
 -- `line::read_line` meets its contract.
-use Rattle.std.proofs.Common.{ℕ, ◌≡◌, sym, ap, ◌∙◌, subst, Err}
+use Rattle.std.proofs.Common.{ℕ, ◌≡◌, sym, ap, ◌∙◌, subst, List, Option, Err}
+use Rattle.records.specs.Sinks.{Fits}
 use Rattle.std.proofs.lemmas.Result.{err_from_is_err_and}
 use Rattle.rules.specs.Failure.{failure, bad_indent}
-use Rattle.rules.specs.Line.{State, Levels, levels, unequal, beyond, failed}
+use Rattle.rules.specs.Line.{Token, State, Levels, levels, unequal, beyond, failed}
 use Rattle.levels.specs.Levels.{compared_of, with_widths}
 use Rattle.levels.specs.declared.Misfit.{Misfit}
-use Rattle.line.specs.LineCuts.{Room, Taken, counted, counted_halts}
-use Rattle.line.proofs.Whole.{read-unequal, read-beyond, line-counted, line-failed, line-tokens}
+use Rattle.line.specs.LineCuts.{tokens_end, Taken, counted, counted_halts}
+use Rattle.line.proofs.Whole.{read-unequal, read-beyond, line-counted, line-failed, line-left, line-tokens}
 use Rattle.line.proofs.read_line.Goals as goal
 
 depth_kept : (x : Levels) (s z : State) → z ≡ with_widths x s → z.depth ≡ s.depth
@@ -17,7 +18,7 @@ depth_kept (beyond number) s z e = ap (λ (y : State). y.depth) e
 pub cut_after-requires-clause-room : goal.cut_after-requires-clause-room
 cut_after-requires-clause-room g c =
     let e = c.in-Ok.ensures in
-    subst (Room (g.S.Sink.fits c.args.tokens.now) c.args.place) (sym (line-tokens _ c.args.state.now c.args.line.now c.in-Ok.lead c.levels_of.new.state (sym e.value) (depth_kept _ _ _ e.after))) c.requires.room
+    subst (λ (ts : Option (List Token)). Fits (g.S.Sink.room c.args.tokens.now) (tokens_end c.args.place ts)) (sym (line-tokens _ c.args.state.now c.args.line.now c.in-Ok.lead c.levels_of.new.state (sym e.value) (depth_kept _ _ _ e.after))) c.requires.room
 
 pub returns-in_ok-cut_after-in-Ok-clause-value : goal.returns-in_ok-cut_after-in-Ok-clause-value
 returns-in_ok-cut_after-in-Ok-clause-value g c =
@@ -64,3 +65,23 @@ pub returns-in-Err-Beyond-clause-taken : goal.returns-in-Err-Beyond-clause-taken
 returns-in-Err-Beyond-clause-taken g c =
     let u = c.in-Err-Beyond in
     rw (read-beyond _ c.args.state.now c.args.line.now _ (misfit _ _ c.levels_of.new.state u.ensures.value u.field-0-is)) tt
+
+pub returns-in_ok-cut_after-in-Ok-clause-left : goal.returns-in_ok-cut_after-in-Ok-clause-left
+returns-in_ok-cut_after-in-Ok-clause-left g c =
+    let e = c.in-Ok.ensures in
+    line-left _ c.args.state.now c.args.line.now c.in-Ok.lead c.levels_of.new.state (sym e.value) (depth_kept _ _ _ e.after) _ _ c.in_ok-cut_after-in-Ok.ensures.value e.after
+
+pub returns-in_err-cut_after-in-Ok-clause-left : goal.returns-in_err-cut_after-in-Ok-clause-left
+returns-in_err-cut_after-in-Ok-clause-left g c =
+    let e = c.in-Ok.ensures in
+    line-left _ c.args.state.now c.args.line.now c.in-Ok.lead c.levels_of.new.state (sym e.value) (depth_kept _ _ _ e.after) _ _ c.in_err-cut_after-in-Ok.ensures.value e.after
+
+pub returns-in-Err-Unequal-clause-left : goal.returns-in-Err-Unequal-clause-left
+returns-in-Err-Unequal-clause-left g c =
+    let u = c.in-Err-Unequal in
+    rw (read-unequal _ c.args.state.now c.args.line.now (misfit _ _ c.levels_of.new.state u.ensures.value u.field-0-is)) u.ensures.after
+
+pub returns-in-Err-Beyond-clause-left : goal.returns-in-Err-Beyond-clause-left
+returns-in-Err-Beyond-clause-left g c =
+    let u = c.in-Err-Beyond in
+    rw (read-beyond _ c.args.state.now c.args.line.now _ (misfit _ _ c.levels_of.new.state u.ensures.value u.field-0-is)) u.ensures.after

@@ -1,7 +1,7 @@
 -- `rereading::read_on` meets its contract.
 use Rattle.std.proofs.Common.{arith}
 use Rattle.std.proofs.lemmas.Result.{err_from_is_err_and}
-use Rattle.rereading.proofs.Loops.{begun, far, finished, next-few, room_next, stops, goes_on, breaks, smaller}
+use Rattle.rereading.proofs.Loops.{begun, far, finished, next-few, line_room, token_room, stops, goes_on, breaks, smaller}
 use Rattle.rereading.proofs.read_on.Goals as goal
 
 pub loop-read-init : goal.loop-read-init
@@ -16,7 +16,7 @@ overflow_add-here-in-loop-read g c = omega (arith, next-few c.requires.text_boun
 pub returns-then-stops_at-clause-reread_is : goal.returns-then-stops_at-clause-reread_is
 returns-then-stops_at-clause-reread_is g c =
     let n = c.old_line-j.ensures in
-    stops c.requires.text_bound c.requires.state_bound c.loop-read.invariant c.loop-read-test.true c.args.limits.few _ n.value n.upper_bound c.stops_at.ensures c.if-stops_at.true c.loop-read.state
+    stops c.requires.text_bound c.requires.state_bound c.loop-read.invariant c.loop-read-test.true c.args.limits.few _ n.value n.upper_bound c.stops_at.ensures c.if-stops_at.true
 
 pub next_line-requires-clause-at_in_bounds : goal.next_line-requires-clause-at_in_bounds
 next_line-requires-clause-at_in_bounds g c =
@@ -28,15 +28,15 @@ pub next_line-requires-clause-depth_bound : goal.next_line-requires-clause-depth
 next_line-requires-clause-depth_bound g c = omega (arith, far c.requires.text_bound c.requires.state_bound c.loop-read.invariant)
 
 pub next_line-requires-clause-line_room : goal.next_line-requires-clause-line_room
-next_line-requires-clause-line_room g c = (room_next c.requires.text_bound c.requires.state_bound c.loop-read.invariant c.loop-read-test.true g.S.Sink.laws c.requires.room).0
+next_line-requires-clause-line_room g c = line_room c.requires.text_bound c.requires.state_bound c.loop-read.invariant c.loop-read-test.true g.S.Sink.laws c.requires.line_room
 
 pub next_line-requires-clause-token_room : goal.next_line-requires-clause-token_room
-next_line-requires-clause-token_room g c = (room_next c.requires.text_bound c.requires.state_bound c.loop-read.invariant c.loop-read-test.true g.S.Sink.laws c.requires.room).1
+next_line-requires-clause-token_room g c = token_room c.requires.text_bound c.requires.state_bound c.loop-read.invariant c.loop-read-test.true g.S.Sink.laws c.requires.token_room
 
 pub returns-in_err-next-clause-reread_is : goal.returns-in_err-next-clause-reread_is
 returns-in_err-next-clause-reread_is g c =
     let p = err_from_is_err_and c.from_residual.result c.from_residual.ensures.1 in
-    rw (p.1, p.2) (breaks c.requires.text_bound c.requires.state_bound c.loop-read.invariant c.loop-read-test.true c.args.limits.few c.next_line.new.state _ c.in_err-next.ensures.step_is)
+    rw (p.1, p.2) (breaks c.requires.text_bound c.requires.state_bound c.loop-read.invariant c.loop-read-test.true c.args.limits.few c.next_line.new.state _ c.in_err-next.ensures.step_is c.next_line.ensures.left)
 
 pub overflow_add-read : goal.overflow_add-read
 overflow_add-read g c = omega (arith, far c.requires.text_bound c.requires.state_bound c.loop-read.invariant)

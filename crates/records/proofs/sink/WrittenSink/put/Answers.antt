@@ -5,4 +5,4 @@ use Rattle.records.proofs.sink.WrittenSink.put.Goals as goal
 
 pub returns : goal.returns
 returns c =
-    record { same = refl; written = part_stored _ _ _ _ _ c.copy_from_slice.ensures.after refl c.requires }
+    record { same = refl; written = part_stored _ _ _ _ _ c.copy_from_slice.ensures.after refl c.requires.fits }
