@@ -1,5 +1,6 @@
 -- Runs of units.
-use Rattle.std.proofs.Common.{◌≡◌, ◌+◌, ◌-◌, ◌∙◌, ℕ, zero, suc, List, [], ◌∷◌, ◌++◌, length, get_or, take, replicate, refl, sym, ap, ap₂, arith, append_assoc, append-nil, length-append, get_or-append-add, take_at, take_all}
+use denote.Ref.{Bor}
+use Rattle.std.proofs.Common.{◌≡◌, ◌+◌, ◌-◌, ◌∙◌, ℕ, zero, suc, List, [], ◌∷◌, ◌++◌, length, get_or, take, replicate, refl, sym, ap, ap₂, arith, append_assoc, append-nil, length-append, get_or-append-add, take_at, take_all, ◌≢◌, ◌⊎◌, inl, inr, Option, None, Some, MatchOption, unwrap_or}
 use Rattle.replay.specs.Units.{SpellsAll, SpellsRun, SpellsRuns, SpellsRepeated, PutsSpelled}
 
 -- one run more behind the others
@@ -46,3 +47,10 @@ put_repeated {T} Spells text count before grown after unit puts one is laid = of
         ap₂ (λ n v. replicate (length before + count - n) v) one unit_is in
         (replicate count u, laid ∙ (ap₂ (λ us vs. us ++ vs) kept added ∙ resized before u count), (u, spells, refl))
     of (u ∷ v ∷ us) e spells = absurd (omega (arith, ap length e, length-append before (u ∷ v ∷ us)))
+
+-- a comma behind the runs is cut off, where one stands there
+pub terminated : (field runs : Bor (List ℕ)) (r : Option (Bor (List ℕ)))
+    → MatchOption r ((front : List ℕ) → field.now ≢ front ++ 44 ∷ []) (λ x. field.now ≡ x.now ++ 44 ∷ []) → runs ≡ unwrap_or r field
+    → (field.now ≡ runs.now) ⊎ (field.now ≡ runs.now ++ 44 ∷ [])
+terminated field runs None cases e = inl (ap (λ x. x.now) (sym e))
+terminated field runs (Some x) cases e = inr (cases ∙ ap (λ y. y.now ++ 44 ∷ []) (sym e))

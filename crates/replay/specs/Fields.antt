@@ -1,5 +1,5 @@
 -- The fields of a line, with one space between: what is left of a line is text, or nothing behind its last field.
-use Rattle.std.specs.Prelude.{◌≡◌, ◌≤◌, ◌==◌, ℕ, Bool, Option, None, Some, List, [], ◌∷◌, All, if◌then◌else◌, length, take, drop}
+use Rattle.std.specs.Prelude.{◌≡◌, ◌≤◌, ◌==◌, ℕ, Bool, Option, None, Some, List, [], ◌∷◌, All, if◌then◌else◌, length, take, drop, min}
 use Rattle.std.specs.Fmt.{decimal}
 use Rattle.std.specs.List.{position_or_len, before_first, after_first}
 use Rattle.std.specs.Option.{option_map}
@@ -29,6 +29,11 @@ SpellsEach Spells rest (x ∷ xs) after = (field : List ℕ) × (next_field rest
 -- the same of a group, which their count precedes
 abbrev pub SpellsGroup : {A : Type 0} → (List ℕ → A → Type 0) → Option (List ℕ) → List A → Option (List ℕ) → Type 0
 SpellsGroup Spells rest xs after = (next_field rest ≡ Some (decimal (length xs))) × SpellsEach Spells (after_field rest) xs after
+
+-- the same of the first of a group, at most so many
+abbrev pub SpellsGroupTo : {A : Type 0} → (List ℕ → A → Type 0) → (most : ℕ) → Option (List ℕ) → List A → Option (List ℕ) → Type 0
+SpellsGroupTo Spells most rest xs after = (count : ℕ) × (next_field rest ≡ Some (decimal count)) × (length xs ≡ min count most)
+    × SpellsEach Spells (after_field rest) xs after
 
 -- a field spells this number
 abbrev pub SpellsNumber : List ℕ → ℕ → Type 0

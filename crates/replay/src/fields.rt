@@ -1,9 +1,9 @@
 // The fields of a line of a recorded list, in the format of oracle/README.md, read one after the other.
-ghost use Rattle.std.specs.Prelude.{◌≡◌, ◌↔◌, ◌<◌, ◌^◌, ℕ, List, Ok, Some, None, IsTrue, IsOk, IsNone, IfOk, OnOk, Option, MatchOption, MatchResult, replicate};
+ghost use Rattle.std.specs.Prelude.{◌≡◌, ◌↔◌, ◌<◌, ◌≤◌, ◌^◌, ℕ, List, Ok, Some, None, IsTrue, IsOk, IsNone, IfOk, OnOk, Option, MatchOption, MatchResult, length, replicate};
 ghost use Rattle.std.specs.Fmt.{decimal};
 ghost use Rattle.std.specs.Str.{IsUtf8};
 ghost use Rattle.std.specs.Fn.{FnOnceReturnsAtMut};
-ghost use Rattle.replay.specs.Fields.{left, next_field, after_field, SpellsNumber, SpellsEach, SpellsGroup, SpellsFront, SpellsFrontGroup};
+ghost use Rattle.replay.specs.Fields.{left, next_field, after_field, SpellsNumber, SpellsEach, SpellsGroup, SpellsGroupTo, SpellsFront, SpellsFrontGroup};
 ghost use Rattle.replay.specs.Units.{SpellsBytes, SpellsAll, SpellsRun, SpellsBuffer, SpellsDigest, PutsSpelled};
 
 use crate::Failure;
@@ -164,33 +164,44 @@ impl<'a> Fields<'a> {
         Ok(bytes)
     }
 
-    // The bytes or words of the run that the next field spells, put behind the others.
-    pub fn run<T: Unit>(&mut self, units: &mut Vec<T>) -> Result<(), Failure>
+    // The bytes or words of the run that the next field spells, put behind the others, where `room` holds them all.
+    pub fn run<T: Unit>(&mut self, room: usize, units: &mut Vec<T>) -> Result<(), Failure>
         ensures spelled { OnOk result ((field : List ℕ) × (next_field (left self.old) ≡ Some field) × PutsSpelled (SpellsRun T.spells) field units.old.items units.new.items) }
+        ensures fits { OnOk result (length units.new.items ≤ room) }
         ensures rest { left self.new ≡ after_field (left self.old) }
     {
-        put_run(self.next()?, units)
+        put_run(self.next()?, room, units)
     }
 
-    // The buffer that the next field spells, in runs with commas between.
-    fn buffer<T: Unit>(&mut self, alloc: Global) -> Result<Vec<T>, Failure>
+    // The buffer that the next field spells, in runs with commas between, where `room` holds it.
+    fn buffer<T: Unit>(&mut self, room: usize, alloc: Global) -> Result<Vec<T>, Failure>
         ensures spelled { IfOk result (λ units. (field : List ℕ) × (next_field (left self.old) ≡ Some field) × SpellsBuffer T.spells field units.items) }
+        ensures fits { IfOk result (λ units. length units.items ≤ room) }
         ensures rest { left self.new ≡ after_field (left self.old) }
     {
+        let field = self.next()?;
         let mut units = Vec::new(alloc);
-        for run in self.next()?.split(',') {
-            put_run(run, &mut units)?;
+        if field.is_empty() {
+            return Ok(units);
+        }
+        for run in field.strip_suffix(',').unwrap_or(field).split(',') {
+            put_run(run, room, &mut units)?;
         }
         Ok(units)
     }
 
-    // The buffers of a group.
-    pub fn buffers<T: Unit>(&mut self, alloc: Global) -> Result<Vec<Vec<T>>, Failure>
-        ensures { IfOk result (λ buffers. SpellsGroup (λ field units. SpellsBuffer T.spells field units.items) (left self.old) buffers.items (left self.new)) }
+    // The buffers of a group, at most so many of them, where `room` holds each.
+    pub fn buffers<T: Unit>(
+        &mut self,
+        most: u64,
+        room: usize,
+        alloc: Global,
+    ) -> Result<Vec<Vec<T>>, Failure>
+        ensures { IfOk result (λ buffers. SpellsGroupTo (λ field units. SpellsBuffer T.spells field units.items) most (left self.old) buffers.items (left self.new)) }
     {
         let mut buffers = Vec::new(alloc);
-        for _ in 0..self.number()? {
-            buffers.push(self.buffer(alloc)?)?;
+        for _ in 0..self.number()?.min(most) {
+            buffers.push(self.buffer(room, alloc)?)?;
         }
         Ok(buffers)
     }

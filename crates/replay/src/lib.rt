@@ -89,15 +89,19 @@ impl fmt::Display for Tally {
     }
 }
 
+// The most bytes of a list that are read.
+const MOST: u64 = 2_097_152;
+
 // A case agrees with the code.
-fn agrees<F: FnMut(&mut Fields<'_>) -> Result<(), Failure>>(
+fn agrees<S, F: FnMut(&mut S, &mut Fields<'_>) -> Result<(), Failure>>(
     line: &[u8],
+    state: &mut S,
     test: &mut F,
 ) -> io::Result<bool>
-    requires { (state : F) (x : _) → F.pre state x }
+    requires { (test : F) (x : _) (y : _) → F.pre test x y }
 {
     let tested = match Fields::new(line) {
-        Some(mut fields) => test(&mut fields),
+        Some(mut fields) => test(state, &mut fields),
         None => Err(Failure::Differs),
     };
     match tested {
@@ -107,32 +111,42 @@ fn agrees<F: FnMut(&mut Fields<'_>) -> Result<(), Failure>>(
     }
 }
 
-// The tally of a list.
-fn tally_of<R: Read + Drop, F: FnMut(&mut Fields<'_>) -> Result<(), Failure>>(
+// The tally of a list, from a state before its first case on. A byte that is no ASCII is as any other that fields do not know.
+fn tally_of<R: Read + Drop, S, F: FnMut(&mut S, &mut Fields<'_>) -> Result<(), Failure>>(
     alloc: Global,
     list: R,
+    state: &mut S,
     test: &mut F,
 ) -> io::Result<Tally>
-    requires { (state : F) (x : _) → F.pre state x }
+    requires { (test : F) (x : _) (y : _) → F.pre test x y }
 {
     let mut tally = Tally::new();
-    for line in BufReader::new(alloc, list)?.split(alloc, b'\n') {
-        let line = line?;
-        tally = tally.with(agrees(line.as_slice(), test)?);
+    for line in BufReader::new(alloc, list.take(MOST))?.split(alloc, b'\n') {
+        let mut line = line?;
+        for byte in line.iter_mut() {
+            if !byte.is_ascii() {
+                *byte = b'?';
+            }
+        }
+        tally = tally.with(agrees(line.as_slice(), state, test)?);
     }
     Ok(tally)
 }
 
-// Holds each case of the lists on standard input, which must agree, and in the file `altered`, where each wrong answer must be found, against a test.
+// Holds each case of the lists on standard input, which must agree, and in the file `altered`, where each wrong answer must be found, against a
+// test, which goes through a list from this state on.
 pub fn replay<
     R: Input + Print + Files + AllocGlobal,
-    F: FnMut(&mut Fields<'_>) -> Result<(), Failure>,
->(rt: &R, mut test: F) -> io::Result<()>
-    requires { (state : F) (x : _) → F.pre state x }
+    S: Drop,
+    N: Fn() -> S,
+    F: FnMut(&mut S, &mut Fields<'_>) -> Result<(), Failure>,
+>(rt: &R, start: N, mut test: F) -> io::Result<()>
+    requires start { N.IsAlwaysCallable start }
+    requires test { (test : F) (x : _) (y : _) → F.pre test x y }
 {
-    let recorded = tally_of(rt.alloc(), rt.reader(), &mut test)?;
+    let recorded = tally_of(rt.alloc(), rt.reader(), &mut start(), &mut test)?;
     println!(rt; "{recorded}")?;
-    let altered = tally_of(rt.alloc(), fs::open(rt, "altered")?, &mut test)?;
+    let altered = tally_of(rt.alloc(), fs::open(rt, "altered")?, &mut start(), &mut test)?;
     println!(rt; "{altered}")
 }
 
@@ -158,13 +172,13 @@ mod tests {
         assert_eq!(rt; bytes.as_slice(), [0, 255].as_slice());
         let mut run = fields.bytes(alloc)?;
         assert_eq!(rt; run.len(), 0);
-        fields.run(&mut run)?;
+        fields.run(3, &mut run)?;
         assert_eq!(rt; run.as_slice(), b"aaa".as_slice());
-        let texts = fields.buffers::<u8>(alloc)?;
+        let texts = fields.buffers::<u8>(3, 4, alloc)?;
         assert_eq!(rt; texts.len(), 2);
         assert_eq!(rt; texts[0].as_slice(), b"abcc".as_slice());
         assert_eq!(rt; texts[1].len(), 0);
-        let words = fields.buffers::<u32>(alloc)?;
+        let words = fields.buffers::<u32>(2, 3, alloc)?;
         assert_eq!(rt; words.len(), 1);
         assert_eq!(rt; words[0].as_slice(), [5, 5, 4_294_967_295].as_slice());
         let foobar = Digest::new().with(b"foobar".as_slice());

@@ -1,5 +1,5 @@
 // What buffers hold, bytes or words, and how the fields of recorded lists spell it.
-ghost use Rattle.std.specs.Prelude.{◌≡◌, ◌<◌, ℕ, List, [], ◌∷◌, false, IfOk, OnOk};
+ghost use Rattle.std.specs.Prelude.{◌≡◌, ◌<◌, ◌≤◌, ℕ, List, [], ◌∷◌, false, IfOk, OnOk, length};
 ghost use Rattle.std.specs.Fmt.{digit_glyph};
 ghost use Rattle.std.specs.Int.{to_le_bytes, w32};
 ghost use Rattle.replay.specs.Fnv.{fnv};
@@ -23,6 +23,9 @@ pub trait Unit: Copy {
     // What it is in a buffer before a call.
     const FILL: Self;
 
+    // The room that one takes at least which is repeated.
+    const ROOM: usize;
+
     // Those that a text spells, put behind the others.
     fn put(text: &str, units: &mut Vec<Self>) -> Result<(), Failure>
         ensures { OnOk result (PutsSpelled spells text.now units.old.items units.new.items) };
@@ -43,7 +46,7 @@ fn hex_digit(b: u8) -> Result<u8, Failure>
     }
 }
 
-// Bytes are spelled in hex, two digits each.
+// Bytes are spelled in hex, two digits each; one character spells none.
 impl Unit for u8 {
     ghost bytes = { λ byte. byte ∷ [] };
 
@@ -51,7 +54,12 @@ impl Unit for u8 {
 
     const FILL: u8 = 0xAA;
 
+    const ROOM: usize = 1;
+
     fn put(text: &str, bytes: &mut Vec<u8>) -> Result<(), Failure> {
+        if text.len() == 1 {
+            return Ok(());
+        }
         let mut rest = text.as_bytes();
         while let [high, low, behind @ ..] = rest {
             bytes.push(16 * hex_digit(*high)? + hex_digit(*low)?)?;
@@ -76,6 +84,8 @@ impl Unit for u32 {
 
     const FILL: u32 = 0xAAAA_AAAA;
 
+    const ROOM: usize = 0;
+
     fn put(text: &str, words: &mut Vec<u32>) -> Result<(), Failure> {
         let word = u32::try_from(number(text)?).map_err(|_| Failure::Differs)?;
         words.push(word)?;
@@ -98,13 +108,22 @@ pub fn put_units<T: Unit>(text: &str, units: &mut Vec<T>) -> Result<(), Failure>
     T::put(text, units)
 }
 
-// The one unit that a text spells, put behind the others so many times.
-fn put_repeated<T: Unit>(text: &str, count: u64, units: &mut Vec<T>) -> Result<(), Failure>
-    ensures { OnOk result (PutsSpelled (SpellsRepeated T.spells count) text.now units.old.items units.new.items) }
+// The one unit that a text spells, put behind the others so many times, where `room` holds them all.
+fn put_repeated<T: Unit>(
+    text: &str,
+    count: u64,
+    room: usize,
+    units: &mut Vec<T>,
+) -> Result<(), Failure>
+    ensures spelled { OnOk result (PutsSpelled (SpellsRepeated T.spells count) text.now units.old.items units.new.items) }
+    ensures fits { OnOk result (length units.new.items ≤ room) }
 {
     let before = units.len();
     put_units(text, units)?;
     if units.len() != before + 1 || MOST < count {
+        return Err(Failure::Differs);
+    }
+    if room < before || room - before < T::ROOM.max(count as usize) {
         return Err(Failure::Differs);
     }
     let unit = units[before];
@@ -112,12 +131,19 @@ fn put_repeated<T: Unit>(text: &str, count: u64, units: &mut Vec<T>) -> Result<(
     Ok(())
 }
 
-// The units of a run, put behind the others: as they are spelled, or one, `*` and how often it stands.
-pub fn put_run<T: Unit>(run: &str, units: &mut Vec<T>) -> Result<(), Failure>
-    ensures { OnOk result (PutsSpelled (SpellsRun T.spells) run.now units.old.items units.new.items) }
+// The units of a run, put behind the others, where `room` holds them all: as they are spelled, or one, `*` and how often it stands.
+pub fn put_run<T: Unit>(run: &str, room: usize, units: &mut Vec<T>) -> Result<(), Failure>
+    ensures spelled { OnOk result (PutsSpelled (SpellsRun T.spells) run.now units.old.items units.new.items) }
+    ensures fits { OnOk result (length units.new.items ≤ room) }
 {
     match run.split_once('*') {
-        Some((text, count)) => put_repeated(text, number(count)?, units),
-        None => put_units(run, units),
+        Some((text, count)) => put_repeated(text, number(count)?, room, units),
+        None => {
+            put_units(run, units)?;
+            if room < units.len() {
+                return Err(Failure::Differs);
+            }
+            Ok(())
+        }
     }
 }

@@ -2,7 +2,8 @@
 #![tactic(auto)]
 
 use replay::Failure;
-use replay::fields::{Fields, Reply};
+use replay::fields::{FILL, Fields, Reply};
+use replay::units::Unit;
 use std::alloc::Global;
 use std::io;
 use std::str::FromStr;
@@ -43,106 +44,125 @@ impl FromStr for Function {
     }
 }
 
-// The arguments of a call, in the order of `lexpage.h`: numbers, buffers of bytes and buffers of words, each by themselves.
+// How many numbers, buffers of bytes and buffers of words a call has at most, and the room of a buffer.
+const NUMBERS: usize = 6;
+
+const BYTES: usize = 3;
+
+const BYTE_ROOM: usize = 1_049_600;
+
+const WORDS: usize = 2;
+
+const WORD_ROOM: usize = 5000;
+
+// The arguments of a call, in the order of `lexpage.h`: numbers, buffers of bytes and buffers of words, each by themselves. What is not given is
+// 0 or empty, and so many buffers of each are given.
 #[derive(Drop)]
 struct Arguments {
     numbers: Vec<u64>,
     bytes: Vec<Vec<u8>>,
     words: Vec<Vec<u32>>,
+    bytes_given: usize,
+    words_given: usize,
+}
+
+// So many buffers, those behind the others empty.
+fn filled_up<T: Unit>(
+    mut buffers: Vec<Vec<T>>,
+    count: usize,
+    alloc: Global,
+) -> Result<Vec<Vec<T>>, Failure> {
+    for _ in buffers.len()..count {
+        buffers.push(Vec::new(alloc))?;
+    }
+    Ok(buffers)
 }
 
 impl Arguments {
     // Those that the next fields spell.
     fn read(fields: &mut Fields<'_>, alloc: Global) -> Result<Arguments, Failure> {
-        let numbers = fields.numbers(alloc)?;
-        let bytes = fields.buffers(alloc)?;
-        let words = fields.buffers(alloc)?;
+        let mut numbers = fields.numbers(alloc)?;
+        if NUMBERS < numbers.len() {
+            return Err(Failure::Differs);
+        }
+        numbers.resize(NUMBERS, 0)?;
+        let bytes = fields.buffers(BYTES as u64, BYTE_ROOM, alloc)?;
+        let words = fields.buffers(WORDS as u64, WORD_ROOM, alloc)?;
+        let (bytes_given, words_given) = (bytes.len(), words.len());
         Ok(Arguments {
             numbers,
-            bytes,
-            words,
+            bytes: filled_up(bytes, BYTES, alloc)?,
+            words: filled_up(words, WORDS, alloc)?,
+            bytes_given,
+            words_given,
         })
     }
 }
 
-// A number of 32 bits.
-fn word(number: u64) -> Result<u32, Failure> {
-    u32::try_from(number).map_err(|_| Failure::Differs)
+// The lowest 32 bits.
+fn low(number: u64) -> u32 {
+    (number % (1 << 32)) as u32
 }
 
-// The reply of a function whose first numbers are a header to as many other arguments as it has.
-fn call_on_page(
-    function: Function,
-    header: [u32; 3],
-    numbers: &[u64],
-    bytes: &mut [Vec<u8>],
-    words: &mut [Vec<u32>],
-) -> Result<Reply, Failure> {
-    let [n, m, k] = header;
-    match (function, numbers, bytes, words) {
-        (Function::TokenText, [i], [text, names], [lines, tokens]) => Ok(Reply::of(|reply| {
-            lexpage::lexpage_token_text(n, m, k, text, lines, tokens, *i as usize, names, reply)
-        })),
-        (Function::Check, [], [text], [lines, tokens]) => Ok(Reply::of(|reply| {
-            lexpage::lexpage_check(n, m, k, text, lines, tokens, reply)
-        })),
-        (Function::Edit, [a, b], [text, spare, w], [lines, tokens]) => {
-            let (a, b) = (*a as usize, *b as usize);
-            Ok(Reply::of(|reply| {
-                lexpage::lexpage_edit(n, m, k, text, spare, lines, tokens, a, b, w, reply)
-            }))
-        }
-        _ => Err(Failure::Differs),
-    }
-}
-
-// The reply of a function to as many arguments as it has. A match says this plainer than a table of closures: each function has other arguments.
+// The reply of a function. A match says this plainer than a table of closures: each function has other arguments.
 fn call(function: Function, arguments: &mut Arguments) -> Result<Reply, Failure> {
     let numbers = arguments.numbers.as_slice();
     let bytes = arguments.bytes.as_mut_slice();
     let words = arguments.words.as_mut_slice();
-    match (function, numbers, bytes, words) {
-        (Function::Read, [], [text], [lines, tokens]) => Ok(Reply::of(|reply| {
-            lexpage::lexpage_read(text, lines, tokens, reply)
-        })),
-        (Function::PanelColumn, [offset], [text], []) => Ok(Reply::of(|reply| {
-            lexpage::lexpage_panel_column(text, *offset as usize, reply)
-        })),
-        (Function::ByteValue, [], [text], []) => Ok(Reply::of(|reply| {
-            lexpage::lexpage_byte_value(text, reply)
-        })),
-        (Function::NumberParts, [], [text], []) => Ok(Reply::of(|reply| {
-            lexpage::lexpage_number_parts(text, reply)
-        })),
-        (Function::Report, [], [text, out], []) => Ok(Reply::of(|reply| {
-            lexpage::lexpage_report(text, out, reply)
-        })),
-        (Function::WalkStep, [next], [], [tokens]) => Ok(Reply::of(|reply| {
-            lexpage::lexpage_walk_step(tokens, *next as usize, reply)
-        })),
-        (Function::Fresh, [], [], [lines]) => Ok(Reply::of(|reply| {
-            lexpage::lexpage_fresh(lines, reply)
-        })),
-        (_, [n, m, k, others @ ..], bytes, words) => {
-            let header = [word(*n)?, word(*m)?, word(*k)?];
-            call_on_page(function, header, others, bytes, words)
+    let ([n, m, k, a, b, _], [first, second, third], [left, right]) = (numbers, bytes, words)
+    else {
+        return Err(Failure::Differs);
+    };
+    let i = *n as usize;
+    let (n, m, k) = (low(*n), low(*m), low(*k));
+    let (a, b) = (*a as usize, *b as usize);
+    Ok(match function {
+        Function::Read => Reply::of(|reply| lexpage::lexpage_read(first, left, right, reply)),
+        Function::PanelColumn => {
+            Reply::of(|reply| lexpage::lexpage_panel_column(first, i, reply))
         }
-        _ => Err(Failure::Differs),
+        Function::ByteValue => Reply::of(|reply| lexpage::lexpage_byte_value(first, reply)),
+        Function::NumberParts => Reply::of(|reply| lexpage::lexpage_number_parts(first, reply)),
+        Function::Report => Reply::of(|reply| lexpage::lexpage_report(first, second, reply)),
+        Function::WalkStep => Reply::of(|reply| lexpage::lexpage_walk_step(left, i, reply)),
+        Function::Fresh => Reply::of(|reply| lexpage::lexpage_fresh(left, reply)),
+        Function::Check => Reply::of(|reply| {
+            lexpage::lexpage_check(n, m, k, first, left, right, reply)
+        }),
+        Function::TokenText => Reply::of(|reply| {
+            lexpage::lexpage_token_text(n, m, k, first, left, right, a, second, reply)
+        }),
+        Function::Edit => Reply::of(|reply| {
+            lexpage::lexpage_edit(n, m, k, first, second, left, right, a, b, third, reply)
+        }),
+    })
+}
+
+// What is answered for a function that is unknown: more words than any reply has, each as it was before the call.
+fn expect_unknown(fields: &mut Fields<'_>) -> Result<(), Failure> {
+    fields.expect_number(99)?;
+    for _ in 0..16 {
+        fields.expect_number(FILL)?;
     }
+    Ok(())
 }
 
 // A call agrees with the code.
 fn agrees(fields: &mut Fields<'_>, alloc: Global) -> Result<(), Failure> {
-    let function = fields.next()?.parse::<Function>()?;
+    let function = fields.next()?.parse::<Function>();
     let mut arguments = Arguments::read(fields, alloc)?;
-    let reply = call(function, &mut arguments)?;
-    fields.expect_reply(&reply)?;
-    fields.expect_digests(arguments.bytes.as_slice())?;
-    fields.expect_digests(arguments.words.as_slice())?;
+    match function {
+        Ok(function) => fields.expect_reply(&call(function, &mut arguments)?)?,
+        Err(_) => expect_unknown(fields)?,
+    }
+    let bytes = arguments.bytes.get(..arguments.bytes_given);
+    fields.expect_digests(bytes.ok_or(Failure::Differs)?)?;
+    let words = arguments.words.get(..arguments.words_given);
+    fields.expect_digests(words.ok_or(Failure::Differs)?)?;
     fields.expect_end()
 }
 
 fn main(rt: HostRuntime) -> io::Result<()> {
     let alloc = rt.alloc();
-    replay::replay(&rt, |fields| agrees(fields, alloc))
+    replay::replay(&rt, || (), |_, fields| agrees(fields, alloc))
 }

@@ -5,7 +5,7 @@
 use history::Listed;
 use replay::Failure;
 use replay::digests::Digest;
-use replay::fields::{Fields, Reply};
+use replay::fields::{Fields, Reply, number};
 use replay::units::Unit;
 use std::alloc::Global;
 use std::{io, mem};
@@ -22,26 +22,49 @@ struct Page {
     header: [u64; 3],
 }
 
-// The length of a buffer, which is at most that of the longest text.
-fn length(number: u64) -> Result<usize, Failure> {
-    if 1_048_576 < number {
-        return Err(Failure::Differs);
+// The room for a page's buffers, and for the edits of a page and their bytes.
+const TEXT: u64 = 1_048_576;
+
+const LINES: u64 = 2100;
+
+const TOKENS: u64 = 2500;
+
+const EDITS: usize = 600;
+
+const BYTES: usize = 1_049_600;
+
+// The number that a field's digits give, from the last of its characters on that is none, or that finds the number too large for a digit more.
+fn digits_of(field: &str) -> u64 {
+    field.bytes().fold(0_u64, |value, b| match b {
+        b'0'..=b'9' if value <= u64::MAX / 10 => {
+            value.wrapping_mul(10).wrapping_add(u64::from(b - b'0'))
+        }
+        _ => 0,
+    })
+}
+
+// The numbers of the next fields; where a field spells none, what its digits give, and 0 for those behind it.
+fn read_lengths(fields: &mut Fields<'_>, lengths: &mut [u64; 4]) -> Result<(), Failure> {
+    for length in lengths.iter_mut() {
+        let field = fields.next()?;
+        *length = digits_of(field);
+        number(field)?;
     }
-    Ok(number as usize)
+    Ok(())
 }
 
 impl Page {
-    // The page of which the next fields tell, with no edits.
-    fn read(fields: &mut Fields<'_>, alloc: Global) -> Result<Page, Failure> {
-        Ok(Page {
-            text: length(fields.number()?)?,
-            spare: length(fields.number()?)?,
-            lines: length(fields.number()?)?,
-            tokens: length(fields.number()?)?,
+    // With buffers of these lengths, as far as there is room, and no edits.
+    fn new([text, spare, lines, tokens]: [u64; 4], alloc: Global) -> Page {
+        Page {
+            text: text.min(TEXT) as usize,
+            spare: spare.min(TEXT) as usize,
+            lines: lines.min(LINES) as usize,
+            tokens: tokens.min(TOKENS) as usize,
             edits: Vec::new(alloc),
             bytes: Vec::new(alloc),
             header: [0; 3],
-        })
+        }
     }
 
     // With the edit that the next fields spell.
@@ -49,7 +72,10 @@ impl Page {
         let a = fields.number()? as usize;
         let b = fields.number()? as usize;
         let start = self.bytes.len();
-        fields.run(&mut self.bytes)?;
+        fields.run(BYTES, &mut self.bytes)?;
+        if EDITS <= self.edits.len() {
+            return Err(Failure::Differs);
+        }
         self.edits.push(Listed {
             a,
             b,
@@ -102,12 +128,14 @@ fn header_after(reply: &Reply, before: [u64; 3]) -> [u64; 3] {
     }
 }
 
-// The line of a page, or of an edit of the page before it; a page is lost where its line or an edit of it cannot be read.
-fn agrees(fields: &mut Fields<'_>, page: &mut Option<Page>, alloc: Global) -> Result<(), Failure> {
+// The line of a page, or of an edit of the page before it; a page is lost where an edit of it cannot be read.
+fn agrees(page: &mut Option<Page>, fields: &mut Fields<'_>, alloc: Global) -> Result<(), Failure> {
     match fields.next()? {
         "p" => {
-            *page = None;
-            *page = Some(Page::read(fields, alloc)?);
+            let mut lengths = [0; 4];
+            let read = read_lengths(fields, &mut lengths);
+            *page = Some(Page::new(lengths, alloc));
+            read?;
             fields.expect_end()
         }
         "e" => {
@@ -122,6 +150,9 @@ fn agrees(fields: &mut Fields<'_>, page: &mut Option<Page>, alloc: Global) -> Re
 
 fn main(rt: HostRuntime) -> io::Result<()> {
     let alloc = rt.alloc();
-    let mut page = None;
-    replay::replay(&rt, |fields| agrees(fields, &mut page, alloc))
+    replay::replay(
+        &rt,
+        || Some(Page::new([0; 4], alloc)),
+        |page, fields| agrees(page, fields, alloc),
+    )
 }

@@ -14,6 +14,9 @@ const TOKENS: usize = 2000;
 
 const MESSAGE: usize = 1500;
 
+// The most bytes of a text.
+const TEXT: usize = 1024;
+
 // The reply to a reading, which is that of the next groups with its line words and token words.
 fn expect_reading(fields: &mut Fields<'_>, text: &[u8]) -> Result<Reply, Failure> {
     let mut lines = [u32::FILL; LINES];
@@ -42,6 +45,9 @@ fn expect_message(
 ) -> Result<(), Failure> {
     let mut message = fields.bytes(alloc)?;
     let size = message.len();
+    if MESSAGE < size {
+        return Err(Failure::Differs);
+    }
     message.resize(MESSAGE, u8::FILL)?;
     let mut out = [u8::FILL; MESSAGE];
     let report = Reply::of(|reply| lexpage::lexpage_report(text, &mut out, reply));
@@ -70,6 +76,9 @@ fn expect_columns(fields: &mut Fields<'_>, text: &[u8]) -> Result<(), Failure> {
 fn agrees(fields: &mut Fields<'_>, alloc: Global) -> Result<(), Failure> {
     let text = fields.bytes(alloc)?;
     let text = text.as_slice();
+    if TEXT < text.len() {
+        return Err(Failure::Differs);
+    }
     let reading = expect_reading(fields, text)?;
     expect_message(fields, text, &reading, alloc)?;
     expect_value(fields, text)?;
@@ -79,5 +88,5 @@ fn agrees(fields: &mut Fields<'_>, alloc: Global) -> Result<(), Failure> {
 
 fn main(rt: HostRuntime) -> io::Result<()> {
     let alloc = rt.alloc();
-    replay::replay(&rt, |fields| agrees(fields, alloc))
+    replay::replay(&rt, || (), |_, fields| agrees(fields, alloc))
 }

@@ -1,6 +1,7 @@
 use Rattle.std.proofs.Common.{inl}
-use Rattle.std.proofs.lemmas.Result.{IfOk-weaker}
 use Rattle.replay.proofs.units.put_run.Goals as goal
 
-pub returns-in-None : goal.returns-in-None
-returns-in-None g c = IfOk-weaker c.put_units.result _ _ (λ _ puts. (puts.0, puts.1, inl puts.2)) c.put_units.ensures
+pub returns-else-room-len-clause-spelled : goal.returns-else-room-len-clause-spelled
+returns-else-room-len-clause-spelled g c =
+    let puts = c.in_ok-put_units-in-None.ensures in
+    (puts.0, puts.1, inl puts.2)
