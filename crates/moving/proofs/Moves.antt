@@ -1,8 +1,8 @@
 -- Records moved within one list: where they stand, down (the first first) and up (the last first).
 -- Assumes nothing.
-use Rattle.std.proofs.Common.{subst, get_or-set_same, length-append, append_assoc, ◌-◌, ◌≡◌, ℕ, zero, suc, ◌+◌, ◌*◌, ◌<◌, ◌≤◌, List, [], ◌∷◌, ◌++◌, length, get_or, set, take, drop, sym, refl, ap, ◌∙◌, append-nil, add-zero, add-suc, suc-add, mul-le-mul_left, zero-add, arith, length-set, length-drop}
+use Rattle.std.proofs.Common.{subst, get_or-set_same, length-append, append_assoc, ◌≡◌, ℕ, zero, suc, ◌+◌, ◌*◌, ◌<◌, ◌≤◌, List, [], ◌∷◌, ◌++◌, length, get_or, set, take, drop, sym, refl, ap, ◌∙◌, append-nil, add-zero, add-suc, suc-add, zero-add, arith, length-set, length-drop}
 use Rattle.std.proofs.lemmas.List.{set-set}
-use lib.Seq.{sets, sets-eq, paste, set-get_or, ext_get_or, get_or-take, get_or-drop, length-take-le, take_at, drop_at}
+use lib.Seq.{sets, sets-eq, set-get_or, ext_get_or, get_or-take, get_or-drop, length-take-le, take_at, drop_at}
 use Rattle.laws.specs.Blocks.{blocks, table}
 use Rattle.laws.proofs.Below.{entry}
 use Rattle.laws.proofs.Sets.{sets_append, sets_before, blocks-same, blocks_from, blocks_append, blocks_length, get_or_sets_above, get_or_sets_below}
@@ -189,6 +189,12 @@ module _ {w : ℕ} {g : List ℕ → ℕ → List ℕ} (r : Width w g) (l : List
         now
         ∙ ap (sets ws b) (sym (append-nil (g ws (at j))))
         ∙ up_more ws j (j + 1) 1 n b b₁ (λ i. at j) e refl (omega (arith, eb)) (λ i v. ap at (omega arith)) (λ i v. subst (λ (k : ℕ). at k + w ≤ b₁) (omega arith) h)
+
+-- one of some words that were brought
+pub word_brought : (l m : List ℕ) (s d n k : ℕ) → d + n ≤ length l → k < n → m ≡ sets l d (words l s n) → get_or (words l s n) k 0 ≡ get_or m (d + k) 0
+word_brought l m s d n k to inside e =
+    let long = length_words l s n in
+    sym (ap (λ (ws : List ℕ). get_or ws (d + k) 0) e ∙ get_or_sets_in (words l s n) l d k (omega (arith, long)) (omega (arith, long)))
 
 -- One record: its words copied, and then made a record there.
 module _ {w : ℕ} {g : List ℕ → ℕ → List ℕ} (r : Width w g) (l ws ws₁ : List ℕ) (s d : ℕ) (from : s + w ≤ length l) (to : d + w ≤ length l) where

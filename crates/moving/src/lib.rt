@@ -50,7 +50,7 @@ fn shift_records<const SIZE: usize, const A: usize, const B: usize>(
     }
 }
 
-// The record at word `from`, brought to word `to`, which may overlap: all its words are read before one is written, and then it is shifted.
+// The record at word `from`, brought to word `to`, which may overlap: all its words are read before one is written.
 fn bring_record<const SIZE: usize, const A: usize, const B: usize>(
     ws: &mut [u32],
     from: usize,
@@ -64,8 +64,11 @@ fn bring_record<const SIZE: usize, const A: usize, const B: usize>(
 {
     let mut record = [0; SIZE];
     record.copy_from_slice(&ws[from..from + SIZE]);
+    let x = record[A].wrapping_add(d);
+    let y = record[B].wrapping_add(e);
     ws[to..to + SIZE].copy_from_slice(&record);
-    shift_record::<SIZE, A, B>(ws, to, d, e);
+    ws[to + A] = x;
+    ws[to + B] = y;
 }
 
 // `count` records brought down, the first one first, so that none is written over before it is brought.

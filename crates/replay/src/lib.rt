@@ -146,7 +146,12 @@ pub fn replay<
 {
     let recorded = tally_of(rt.alloc(), rt.reader(), &mut start(), &mut test)?;
     println!(rt; "{recorded}")?;
-    let altered = tally_of(rt.alloc(), fs::open(rt, "altered")?, &mut start(), &mut test)?;
+    let altered = tally_of(
+        rt.alloc(),
+        fs::open(rt, "altered")?,
+        &mut start(),
+        &mut test,
+    )?;
     println!(rt; "{altered}")
 }
 

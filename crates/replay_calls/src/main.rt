@@ -109,8 +109,7 @@ fn call(function: Function, arguments: &mut Arguments) -> Result<Reply, Failure>
     let numbers = arguments.numbers.as_slice();
     let bytes = arguments.bytes.as_mut_slice();
     let words = arguments.words.as_mut_slice();
-    let ([n, m, k, a, b, _], [first, second, third], [left, right]) = (numbers, bytes, words)
-    else {
+    let ([n, m, k, a, b, _], [first, second, third], [left, right]) = (numbers, bytes, words) else {
         return Err(Failure::Differs);
     };
     let i = *n as usize;
