@@ -1,7 +1,7 @@
 // A page held against a fresh reading of its text, line by line.
 #![tactic(auto)]
 
-ghost use Rattle.std.specs.Prelude.{◌≡◌, ◌+◌, ◌*◌, ◌≤◌, length};
+ghost use Rattle.std.specs.Prelude.{◌≡◌, ◌&&◌, ◌+◌, ◌*◌, ◌≤◌, length};
 ghost use Rattle.rules.specs.Records.{line_size, token_size, header, read_lines, fresh_reading};
 ghost use Rattle.rules.specs.Page.{is_recorded};
 ghost use Rattle.rules.specs.Check.{check_reply};
@@ -11,11 +11,19 @@ ghost use Rattle.refusals.specs.Replies.{reply_of};
 ghost use Rattle.checking.specs.Answers.{check_values};
 
 use header::Page;
-use records::Held;
+use records::{Held, Place, State};
 use refusals::{LineLimits, Refusal};
 use tables::Tables;
 
-// The lines of a text, held against the records of a page with `count` lines and `total` tokens.
+// Whether all words of lines and all of tokens were the same so far.
+fn both_same(lines: &Held, tokens: &Held) -> bool
+    ensures { result ≡ (lines.now.same && tokens.now.same) }
+{
+    lines.same() && tokens.same()
+}
+
+// The lines of a text, held against the records of a page with `count` lines and `total` tokens, up to the first difference: `read_on` would pass
+// it. A turn passes a line, whose length no range gives.
 fn lines_agree(
     text: &[u8],
     lines: &[u32],
@@ -28,24 +36,45 @@ fn lines_agree(
     requires sizes { (length lines.now ≡ line_size * (count + 1)) × (length tokens.now ≡ token_size * total) }
     ensures { result ≡ is_recorded (record { head = header (length text.now) count total; lines = lines.now; tokens = tokens.now }) (read_lines (line_limits_of limits) text.now) }
 {
+    let tables = Tables::new();
     let mut line_sink = Held::new(lines);
     let mut token_sink = Held::new(tokens);
-    let Ok(found) = passes::pass_lines(
-        &Tables::new(),
-        text,
-        &mut line_sink,
-        &mut token_sink,
-        limits,
-    ) else {
-        return false;
+    let mut state = State::initial();
+    let mut place = Place {
+        line: 0,
+        first: 0,
+        start: 0,
     };
-    if found.lines != count {
+    while (place.start as usize) < text.len() {
+        let Ok(next) = lines::next_line(
+            &tables,
+            text,
+            place.start as usize,
+            &mut line_sink,
+            &mut token_sink,
+            place,
+            limits,
+            &mut state,
+        ) else {
+            return false;
+        };
+        if !both_same(&line_sink, &token_sink) {
+            return false;
+        }
+        place = Place {
+            line: place.line + 1,
+            first: place.first + next.tokens,
+            start: next.at as u32,
+        };
+    }
+    if place.line != count {
         return false;
     }
-    if found.tokens != total {
+    if place.first + state.levels() != total {
         return false;
     }
-    line_sink.same() && token_sink.same()
+    lines::put_end(&mut line_sink, &mut token_sink, place, &state);
+    both_same(&line_sink, &token_sink)
 }
 
 // A text with as many line and token words as `count` lines and `total` tokens need: they are its fresh reading.

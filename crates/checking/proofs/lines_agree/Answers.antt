@@ -1,27 +1,68 @@
 -- `checking::lines_agree` meets its contract.
-use Rattle.checking.proofs.Held.{unread_lem, other_count, other_total, same-lines, other-lines}
+use Rattle.std.proofs.Common.{sym, ◌∙◌, arith}
+use Rattle.checking.proofs.Lines.{held-start, far, goes-on, smaller, differs, stuck, other-count, other-total, end_is}
 use Rattle.checking.proofs.lines_agree.Goals as goal
 
+pub loop-place-init : goal.loop-place-init
+loop-place-init c = held-start _ _ _ _ c.initial-state.ensures
+
+pub next_line-requires-clause-at_in_bounds : goal.next_line-requires-clause-at_in_bounds
+next_line-requires-clause-at_in_bounds c =
+    let b = far c.loop-place.invariant c.args.limits.few c.requires.text_bound in
+    (c.loop-place-test.true, (omega (arith, b, c.loop-place-test.true, c.requires.text_bound), (b.1, omega (arith, b))))
+
+pub next_line-requires-clause-depth_bound : goal.next_line-requires-clause-depth_bound
+next_line-requires-clause-depth_bound c = (far c.loop-place.invariant c.args.limits.few c.requires.text_bound).3
+
 pub returns-in_default : goal.returns-in_default
-returns-in_default c = let s = c.requires.sizes in unread_lem _ _ _ _ _ _ s.0 s.1 c.in_default.field-0 c.in_default.ensures.value
+returns-in_default c =
+    stuck c.loop-place.invariant c.args.count c.args.total c.requires.sizes c.new-line_sink.ensures c.new-token_sink.ensures c.loop-place-test.true c.in_default.field-0 c.next_line.new.state c.in_default.ensures.step_is
 
-pub returns-then-found-count : goal.returns-then-found-count
-returns-then-found-count c =
-    let f = c.in-Ok.ensures in
-    other_count _ _ _ _ c.requires.sizes _ _ _ _ f.value c.new-line_sink.ensures c.new-token_sink.ensures f.taken c.if-found-count.true
+pub returns-then-not-both_same : goal.returns-then-not-both_same
+returns-then-not-both_same c =
+    let x = c.in-Ok.ensures in
+    differs (goes-on c.loop-place.invariant c.loop-place-test.true c.in-Ok.next x.step_is x.line_taken x.tokens_taken) c.args.count c.args.total c.requires.sizes c.new-line_sink.ensures c.new-token_sink.ensures
+    (sym c.both_same.ensures ∙ c.if-not-both_same.true)
 
-pub returns-then-found-total : goal.returns-then-found-total
-returns-then-found-total c =
-    let f = c.in-Ok.ensures in
-    other_total _ _ _ _ c.requires.sizes _ _ _ _ f.value c.new-line_sink.ensures c.new-token_sink.ensures f.taken c.if-found-count.false c.if-found-total.true
+pub overflow_add-place : goal.overflow_add-place
+overflow_add-place c = omega (arith, far c.loop-place.invariant c.args.limits.few c.requires.text_bound)
 
-pub returns-then-same : goal.returns-then-same
-returns-then-same c =
-    let f = c.in-Ok.ensures in
-    same-lines _ _ _ _ c.requires.sizes _ _ _ _ f.value c.new-line_sink.ensures c.new-token_sink.ensures f.taken c.if-found-count.false c.if-found-total.false
-    c.same.ensures c.if-same.true c.same-then-same.ensures
+pub overflow_add-place-in-loop-place : goal.overflow_add-place-in-loop-place
+overflow_add-place-in-loop-place c =
+    let x = c.in-Ok.ensures in
+    omega (arith, far (goes-on c.loop-place.invariant c.loop-place-test.true c.in-Ok.next x.step_is x.line_taken x.tokens_taken) c.args.limits.few c.requires.text_bound)
 
-pub returns-else-same : goal.returns-else-same
-returns-else-same c =
-    let f = c.in-Ok.ensures in
-    other-lines _ _ _ _ c.requires.sizes _ _ _ _ f.value c.new-line_sink.ensures c.new-token_sink.ensures f.taken c.if-found-count.false c.if-found-total.false c.same.ensures c.if-same.false
+pub overflow_cast-place-in-loop-place-2 : goal.overflow_cast-place-in-loop-place-2
+overflow_cast-place-in-loop-place-2 c =
+    let x = c.in-Ok.ensures in
+    omega (arith, far (goes-on c.loop-place.invariant c.loop-place-test.true c.in-Ok.next x.step_is x.line_taken x.tokens_taken) c.args.limits.few c.requires.text_bound)
+
+pub loop-place-smaller : goal.loop-place-smaller
+loop-place-smaller c = omega (arith, smaller c.loop-place.invariant c.loop-place-test.true c.in-Ok.next c.in-Ok.ensures.step_is, c.loop-place-test.true)
+
+pub loop-place-preserved : goal.loop-place-preserved
+loop-place-preserved c = let x = c.in-Ok.ensures in goes-on c.loop-place.invariant c.loop-place-test.true c.in-Ok.next x.step_is x.line_taken x.tokens_taken
+
+pub returns-then-place-count : goal.returns-then-place-count
+returns-then-place-count c =
+    other-count c.loop-place.invariant c.args.count c.args.total c.requires.sizes c.new-line_sink.ensures c.new-token_sink.ensures c.loop-place-test.false
+    (λ e. omega (arith, c.if-place-count.true, e))
+
+pub overflow_add-place-2 : goal.overflow_add-place-2
+overflow_add-place-2 c = omega (arith, c.levels.ensures.few, far c.loop-place.invariant c.args.limits.few c.requires.text_bound)
+
+pub returns-then-place-levels : goal.returns-then-place-levels
+returns-then-place-levels c =
+    other-total c.loop-place.invariant c.args.count c.args.total c.requires.sizes c.new-line_sink.ensures c.new-token_sink.ensures c.loop-place-test.false c.levels.ensures.value c.if-place-levels.true
+
+pub put_end-requires-clause-end_bound : goal.put_end-requires-clause-end_bound
+put_end-requires-clause-end_bound c =
+    let b = far c.loop-place.invariant c.args.limits.few c.requires.text_bound in
+    (b.0, (omega (arith, b), omega (arith, b)))
+
+pub returns : goal.returns
+returns c =
+    let x = c.put_end.ensures in
+    c.both_same-2.ensures
+    ∙ end_is c.loop-place.invariant c.args.count c.args.total c.requires.sizes c.new-line_sink.ensures c.new-token_sink.ensures c.loop-place-test.false
+    c.levels.ensures.value (omega (arith, c.if-place-count.false)) c.if-place-levels.false x.line_taken x.tokens_taken
