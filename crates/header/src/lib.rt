@@ -30,16 +30,16 @@ impl Header {
     }
 }
 
-// A header with the buffers text, lines and tokens, lent to be read.
+// A header with the buffers text, lines and tokens, lent to be read: the text for 't, the records for 'r.
 #[derive(Clone, Copy)]
-pub struct Page<'a> {
+pub struct Page<'t, 'r> {
     pub head: Header,
-    pub text: &'a [u8],
-    pub lines: &'a [u32],
-    pub tokens: &'a [u32],
+    pub text: &'t [u8],
+    pub lines: &'r [u32],
+    pub tokens: &'r [u32],
 }
 
-impl<'a> Page<'a> {
+impl<'t, 'r> Page<'t, 'r> {
     // The header needs no more than the buffers have.
     #[tactic(auto, unfolding(rules::specs::Page::fits))]
     pub fn fits(self) -> bool

@@ -123,11 +123,45 @@ pub fn token_part(page: Page, i: usize, names: &[u8]) -> Result<Part, Refusal>
 }
 
 // The text of token i of a page: that part itself, and no copy.
-pub fn token_text<'a>(page: Page<'a>, i: usize, names: &'a [u8]) -> Result<&'a [u8], Refusal>
+pub fn token_text<'a>(page: Page<'a, '_>, i: usize, names: &'a [u8]) -> Result<&'a [u8], Refusal>
     ensures told { reply_of (λ s. part_words (part_of (lent_page page.entry) i)) result ≡ token_text_reply (lent_page page.entry) i (length names.now) }
     ensures text { IfOk result (λ s. s.now ≡ token_text (lent_page page.entry) i names.now) }
     ensures place { IfOk result (λ s. s.ref_ptr ≡ part_place page.entry.text.ref_ptr names.entry.ref_ptr (part_of (lent_page page.entry) i)) }
 {
     let token = ask(page, i, names.len())?;
     Ok(text_by_kind(token.kind, token.position, token.size, page.text, names))
+}
+
+#[cfg(test)]
+mod callers {
+    use super::*;
+    use header::Header;
+
+    // The text of the one token of a page whose records stand here alone.
+    fn only_text<'a>(
+        text: &'a [u8],
+        token: [u32; records::TOKEN],
+        names: &'a [u8],
+    ) -> Result<&'a [u8], Refusal> {
+        let lines: [u32; records::LINE] = [0; records::LINE];
+        let page = Page {
+            head: Header { n: 3, m: 0, k: 1 },
+            text,
+            lines: &lines,
+            tokens: &token,
+        };
+        token_text(page, 0, names)
+    }
+
+    // A text that is handed back outlives the records.
+    #[test]
+    fn text_outlives_the_records(rt: HostRuntime) {
+        let text = b"let".as_slice();
+        let names = b"<INDENT><DEDENT>\\n".as_slice();
+        let none = b"".as_slice();
+        let word = only_text(text, [45, 1, 2, 1, 2], names);
+        assert_eq!(rt; word.unwrap_or(none), b"et".as_slice());
+        let indent = only_text(text, [kinds::INDENT, 0, 0, 1, 1], names);
+        assert_eq!(rt; indent.unwrap_or(none), b"<INDENT>".as_slice());
+    }
 }

@@ -16,7 +16,12 @@ use token_walk::{TokenRecord, TokenWalk};
 const NAMES: &[u8] = b"<INDENT><DEDENT>\\n";
 
 // The page of a text that reads, with the token records at the front of these words.
-fn page_of<'a>(counts: Counts, text: &'a [u8], lines: &'a [u32], words: &'a [u32]) -> Page<'a>
+fn page_of<'t, 'r>(
+    counts: Counts,
+    text: &'t [u8],
+    lines: &'r [u32],
+    words: &'r [u32],
+) -> Page<'t, 'r>
     requires { (counts.bytes ≤ 4_294_967_295) × ((counts.lines ≤ 4_294_967_295) × ((counts.tokens ≤ 4_294_967_295) × (token_size * counts.tokens ≤ length words.now))) }
 {
     Page {
