@@ -79,7 +79,7 @@ impl<'a> Iterator for TokenWalk<'a> {
     ghost remaining = { λ w. at_most (tokens_left w) };
 
     fn next(&mut self) -> Option<TokenRecord> {
-        let (next, record) = walk_step(self.words, self.next);
+        let (next, record) = step_from(self.words, self.next);
         self.next = next;
         record
     }
