@@ -4,10 +4,10 @@
 ghost use Rattle.std.specs.Prelude.{◌≡◌, ◌||◌, not, ◌+◌, ◌≤◌, ◌<◌, ◌^◌, ltb, length, IfOk};
 ghost use Rattle.rules.specs.Kinds.{is_kind};
 ghost use Rattle.rules.specs.Replies.{first_of};
-ghost use Rattle.rules.specs.TokenText.{names_size, part_by, part_tests, part_of, part_words, part_bytes, token_text_reply, token_text};
+ghost use Rattle.rules.specs.TokenText.{names_size, part_by, part_tests, part_of, part_words, part_bytes, token_text_reply, token_text_number, token_text};
 ghost use Rattle.refusals.specs.Replies.{reply_of};
 ghost use Rattle.header.specs.Pages.{lent_page};
-ghost use Rattle.token_text.specs.Answers.{part_values, refused_by, IsGranted};
+ghost use Rattle.token_text.specs.Answers.{part_values, refused_by, number_by, IsGranted};
 ghost use Rattle.token_text.specs.Places.{part_place};
 
 use header::Page;
@@ -125,6 +125,7 @@ pub fn token_part(page: Page, i: usize, names: &[u8]) -> Result<Part, Refusal>
 // The text of token i of a page: that part itself, and no copy.
 pub fn token_text<'a>(page: Page<'a, '_>, i: usize, names: &'a [u8]) -> Result<&'a [u8], Refusal>
     ensures told { reply_of (λ s. part_words (part_of (lent_page page.entry) i)) result ≡ token_text_reply (lent_page page.entry) i (length names.now) }
+    ensures number { number_by result ≡ token_text_number (lent_page page.entry) i (length names.now) }
     ensures text { IfOk result (λ s. s.now ≡ token_text (lent_page page.entry) i names.now) }
     ensures place { IfOk result (λ s. s.ref_ptr ≡ part_place page.entry.text.ref_ptr names.entry.ref_ptr (part_of (lent_page page.entry) i)) }
 {

@@ -4,7 +4,7 @@ use lib.ListN.{length}
 use Rattle.rules.specs.TokenText.{part_bytes}
 use Rattle.header.specs.Pages.{lent_page}
 use Rattle.token_text.specs.Places.{part_place}
-use Rattle.token_text.proofs.Texts.{refused, accepts, part-is, text_lem}
+use Rattle.token_text.proofs.Texts.{refused, accepts, number_is, part-is, text_lem}
 use borrow.Author.Rules.{rules}
 use Rattle.token_text.proofs.token_text.Goals as goal
 
@@ -12,7 +12,7 @@ pub returns-in_err-token : goal.returns-in_err-token
 returns-in_err-token c =
     let a = c.args in
     let e = refused (lent_page a.page) a.i (length a.names.now) _ c.in_err-token.ensures.refusal in
-    search (rules, e)
+    search (rules, e, number_is (lent_page a.page) a.i (length a.names.now) _ e)
 
 pub returns : goal.returns
 returns c =
@@ -21,8 +21,10 @@ returns c =
     let asked = c.in_ok-token.ensures in
     let d = c.text_by_kind.ensures in
     let p = part-is pg a.i (length a.names.now) _ asked.granted in
+    let told = accepts pg a.i (length a.names.now) asked.refusal in
     record {
-      told = accepts pg a.i (length a.names.now) asked.refusal;
+      told = told;
+      number = number_is pg a.i (length a.names.now) _ told;
       text = d.result_value ∙ ap (part_bytes a.page.text.now a.names.now) p ∙ text_lem pg a.i a.names.now asked.refusal;
       place = d.ref_ptr_value ∙ ap (part_place a.page.text.ref_ptr a.names.ref_ptr) p;
     }
