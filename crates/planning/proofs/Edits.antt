@@ -50,11 +50,11 @@ module _ (pg : Page) (ed : Edit) {u : List ℕ} (f : fits pg ≡ true) (r : (ed.
       pub stop-plan : {c : Counts} {j : ℕ} → Reads (Ok (Stop c j)) → pg.head.n ≤ 4_294_967_295 → PlanIs pg ed (stop_answer pg (before_line pg.lines i) c j)
       stop-plan {c} {j} h = stop_plan_lem ok bg left (gives (Ok (Stop c j)) h)
 
-      pub end-fits : {c : Counts} {levels : ℕ} → Reads (Ok (End c)) → levels ≡ length left.widths → Small (end_plan pg.head (before_line pg.lines i) c levels)
+      pub end-fits : {c : Counts} {levels : ℕ} → Reads (Ok (End c)) → levels ≡ length left.widths → Small (end_plan pg.head pg.head.n (before_line pg.lines i) c levels)
       end-fits {c} h = end-small ok bg (gives (Ok (End c)) h)
 
       pub end-plan : {c : Counts} {levels : ℕ} → Reads (Ok (End c)) → levels ≡ length left.widths → pg.head.n ≤ 4_294_967_295
-          → PlanIs pg ed (end_answer pg (before_line pg.lines i) c levels)
+          → PlanIs pg ed (end_answer pg pg.head.n (before_line pg.lines i) c levels)
       end-plan {c} h = end_plan_lem ok bg (gives (Ok (End c)) h)
 
       pub unread-plan : {x : Unread} → Reads (Err x) → PlanIs pg ed (Err (Reading x))

@@ -395,7 +395,7 @@ module _ {pg : Page} {ed : Edit} (ok : Editable pg ed) where
         let v = lines-small r.0 in
         (r.1.1.0, (omega (arith, r.1.0, rest-small), omega (arith, v.0, r.1.0, rest-small, bg.within, bg.m-le), omega (arith, v.1, r.1.0, rest-small, us.first, bg.k-le)))
 
-    pub end-small : {c : Counts} {levels : ℕ} {left : State} → Gives left (Ok (End c)) → levels ≡ length left.widths → Small (end_plan pg.head before c levels)
+    pub end-small : {c : Counts} {levels : ℕ} {left : State} → Gives left (Ok (End c)) → levels ≡ length left.widths → Small (end_plan pg.head n before c levels)
     end-small r e =
         let v = lines-small (all-lines r) in
         (omega (arith, r.3, rest-small), omega (arith, v.0, r.3, rest-small, bg.within, bg.m-le), omega (arith, v.1, r.3, rest-small, us.first, bg.k-le, e))
@@ -457,7 +457,7 @@ module _ {pg : Page} {ed : Edit} (ok : Editable pg ed) where
         go false e = roomed-is (stop_plan lines before c j) (stop_planned c j r.0 r.1.0 r.1.1.0 (ltb-false k (line_word lines j 1) e) (omega (arith, stop-start left r, hn))) (stop-mends c j left r)
 
     end_planned : (c : Counts) (levels : ℕ) (l : rereads.Lines barge_line (drop base u) z c) → c.bytes ≡ length (drop base u) → levels ≡ length l.after.widths → n ≤ 4_294_967_295
-        → Planned u lines m k (end_plan pg.head before c levels)
+        → Planned u lines m k (end_plan pg.head n before c levels)
     end_planned c levels l hq hg hn =
         let n = l.counted in
         record {
@@ -478,7 +478,7 @@ module _ {pg : Page} {ed : Edit} (ok : Editable pg ed) where
         }
 
     end-mends : (c : Counts) (levels : ℕ) {left : State} (r : Gives left (Ok (End c))) (bh : Behind barge_line t (page_records pg))
-        → Mends t lines bh.entries bh.end ed (end_plan pg.head before c levels)
+        → Mends t lines bh.entries bh.end ed (end_plan pg.head n before c levels)
     unfolding old_of
     end-mends c levels {left} r bh =
         let v = r.4 (old_of bh i at-is) in
@@ -487,7 +487,7 @@ module _ {pg : Page} {ed : Edit} (ok : Editable pg ed) where
         let le : length (with_end es end) ≤ m + 1 = omega (arith, length_end es end, m-is bh) in
         let tj : take (m + 1) (with_end es end) ≡ with_end es end = take_all (m + 1) (with_end es end) le in
         let dj : drop (m + 1) (with_end es end) ≡ [] = drop_of_length-le (with_end es end) {i = m + 1} le in
-        let nl : new_lines (Some levels) (planned_lines u lines (end_plan pg.head before c levels)) ≡ with_end r.0 left = ap (new_lines (Some levels)) (all-lines r).reads-are in
+        let nl : new_lines (Some levels) (planned_lines u lines (end_plan pg.head n before c levels)) ≡ with_end r.0 left = ap (new_lines (Some levels)) (all-lines r).reads-are in
         record {
           entries = take i es ++ r.0;
           last = left;
@@ -500,9 +500,9 @@ module _ {pg : Page} {ed : Edit} (ok : Editable pg ed) where
         }
 
     pub end_plan_lem : {c : Counts} {levels : ℕ} {left : State} → Gives left (Ok (End c)) → levels ≡ length left.widths → n ≤ 4_294_967_295
-        → PlanIs pg ed (end_answer pg before c levels)
+        → PlanIs pg ed (end_answer pg n before c levels)
     end_plan_lem {c} {levels} r hg hn =
-        roomed-is (end_plan pg.head before c levels) (end_planned c levels (all-lines r) r.3 hg hn) (end-mends c levels r)
+        roomed-is (end_plan pg.head n before c levels) (end_planned c levels (all-lines r) r.3 hg hn) (end-mends c levels r)
 
     halted : (h : Halt) (es : List Entry) → read_from barge_line initial (lines_of u) ≡ halts es h → read_lines barge_line u ≡ unread (halt_refusal (byte_sum es) (suc (length es)) h)
     unfolding read_lines recorded_by

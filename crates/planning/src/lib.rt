@@ -147,6 +147,8 @@ pub fn plan_edit(page: Page, edited: &[u8], edit: Edit) -> Result<Plan, Refusal>
     let mut state = records::load_state(page.lines, i);
     match reread_from(page, edited, edit, i, &mut state)? {
         Reached::Stop(read, j) => plans::plan_stop(page, begin, read, j),
-        Reached::End(read) => plans::plan_end(page, begin, read, state.levels()),
+        Reached::End(read) => {
+            plans::plan_end(page, page.head.n as usize, begin, read, state.levels())
+        }
     }
 }

@@ -73,12 +73,12 @@ stop_plan lines begin read j = record { begin = begin; read = read; end = None; 
 abbrev pub stop_answer : RulesPage.Page → (begin read : Counts) (j : ℕ) → Result Plan Refusal
 stop_answer pg begin read j = if ltb pg.head.k (line_word pg.lines j 1) then Err Unfit else roomed pg (stop_plan pg.lines begin read j)
 
--- The plan at the end of a text after what was read, with so many levels open: nothing is kept.
-abbrev pub end_plan : Header → (begin read : Counts) (levels : ℕ) → Plan
-end_plan h begin read levels = record { begin = begin; read = read; end = Some levels; kept = record { bytes = h.n; lines = h.m + 1; tokens = h.k } }
+-- The plan at the end of a text after what was read, with so many levels open; the old text had n bytes, and nothing is kept.
+abbrev pub end_plan : Header → (n : ℕ) (begin read : Counts) (levels : ℕ) → Plan
+end_plan h n begin read levels = record { begin = begin; read = read; end = Some levels; kept = record { bytes = n; lines = h.m + 1; tokens = h.k } }
 
-abbrev pub end_answer : RulesPage.Page → (begin read : Counts) (levels : ℕ) → Result Plan Refusal
-end_answer pg begin read levels = roomed pg (end_plan pg.head begin read levels)
+abbrev pub end_answer : RulesPage.Page → (n : ℕ) (begin read : Counts) (levels : ℕ) → Result Plan Refusal
+end_answer pg n begin read levels = roomed pg (end_plan pg.head n begin read levels)
 
 -- What is written.
 

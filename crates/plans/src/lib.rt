@@ -96,18 +96,24 @@ pub fn plan_stop(page: Page, begin: Counts, read: Counts, j: usize) -> Result<Pl
     plan_room(p, page)
 }
 
-// The plan at the end of an edited text, on a page: after what was read, with so many levels open.
-pub fn plan_end(page: Page, begin: Counts, read: Counts, levels: usize) -> Result<Plan, Refusal>
+// The plan at the end of an edited text, on a page whose text had n bytes: after what was read, with so many levels open.
+pub fn plan_end(
+    page: Page,
+    n: usize,
+    begin: Counts,
+    read: Counts,
+    levels: usize,
+) -> Result<Plan, Refusal>
     requires within { page.head.m ≤ 1_048_576 }
-    requires small { Small (end_plan (header_of page.head) begin read levels) }
-    ensures { result ≡ end_answer (lent_page page.entry) begin read levels }
+    requires small { Small (end_plan (header_of page.head) n begin read levels) }
+    ensures { result ≡ end_answer (lent_page page.entry) n begin read levels }
 {
     let p = Plan {
         begin,
         read,
         end: Some(levels),
         kept: Counts {
-            bytes: page.head.n as usize,
+            bytes: n,
             lines: page.head.m as usize + 1,
             tokens: page.head.k as usize,
         },
