@@ -19,7 +19,7 @@ keyword_length-requires c = let r = searched _ (omega arith) c.keyword_start-to.
 pub rows-preserved-then-keyword_length-n : goal.rows-preserved-then-keyword_length-n
 rows-preserved-then-keyword_length-n c =
     let r = searched _ (omega arith) c.keyword_start-to.ensures c.if-to-row.false in
-    other_length r.at_row c.args.word.now c.rows.invariant (λ e. c.if-keyword_length-n.true (c.keyword_length.ensures ∙ e))
+    other_length r.at_row c.args.word.now c.rows.invariant (λ e. omega (arith, c.if-keyword_length-n.true, c.keyword_length.ensures, e))
 
 pub overflow_add-row : goal.overflow_add-row
 overflow_add-row c = let r = searched _ (omega arith) c.keyword_start-to.ensures c.if-to-row.false in omega (arith, r.inside)

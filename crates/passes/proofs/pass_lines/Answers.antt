@@ -1,6 +1,7 @@
 -- `passes::pass_lines` meets its contract: all lines are read, then the end is put.
 use Rattle.std.proofs.Common.{arith}
 use Rattle.std.proofs.lemmas.Result.{err_from_is_err_and}
+use Rattle.records.proofs.Takes.{fits-less}
 use Rattle.rereading.proofs.Rooms.{few-zero}
 use Rattle.passes.proofs.Lines.{line_room_first, token_room_first, halted_pass, end_small, end_line_room, end_token_room, end_counts, end_taken}
 use Rattle.passes.proofs.pass_lines.Goals as goal
@@ -26,7 +27,7 @@ put_end-requires-clause-end_bound g c =
 
 pub put_end-requires-clause-line_room : goal.put_end-requires-clause-line_room
 put_end-requires-clause-line_room g c =
-    end_line_room _ c.args.limits.few _ c.requires.text_bound c.initial-state.ensures g.S.Sink.laws c.args.lines.now c.args.tokens.now c.in_ok-read.ensures.end_is c.read_to_end.new.lines c.read_to_end.new.tokens c.in_ok-read.ensures.taken c.requires.line_room
+    fits-less _ (omega arith) (end_line_room _ c.args.limits.few _ c.requires.text_bound c.initial-state.ensures g.S.Sink.laws c.args.lines.now c.args.tokens.now c.in_ok-read.ensures.end_is c.read_to_end.new.lines c.read_to_end.new.tokens c.in_ok-read.ensures.taken c.requires.line_room)
 
 pub put_end-requires-clause-token_room : goal.put_end-requires-clause-token_room
 put_end-requires-clause-token_room g c =
