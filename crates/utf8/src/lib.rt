@@ -23,14 +23,18 @@ fn leading_ones(b: u8) -> u32
 fn second_range(first: u8) -> (u8, u8)
     ensures { (result.0 ≡ lowest first) × (result.1 ≡ highest first) }
 {
-    match first {
-        0xE0 => (0xA0, 0xBF),
-        0xED => (0x80, 0x9F),
-        0xF0 => (0x90, 0xBF),
-        0xF4 => (0x80, 0x8F),
-        0xC2..=0xF3 => (0x80, 0xBF),
-        _ => (0xFF, 0xBF),
-    }
+    let lowest = match first {
+        0xE0 => 0xA0,
+        0xF0 => 0x90,
+        0xC2..=0xF4 => 0x80,
+        _ => 0xFF,
+    };
+    let highest = match first {
+        0xED => 0x9F,
+        0xF4 => 0x8F,
+        _ => 0xBF,
+    };
+    (lowest, highest)
 }
 
 // Whether a byte from `lo` to `hi` stands at `at`.
@@ -63,12 +67,17 @@ pub fn scalar_size(text: &[u8], at: usize) -> usize
         return 0;
     }
     let first = text[at];
-    match leading_ones(first) {
-        0 => 1,
-        2 if second_at(text, at + 1, first) => 2,
-        3 if second_at(text, at + 1, first) && later_at(text, at + 2) => 3,
-        4 if second_at(text, at + 1, first) && later_at(text, at + 2) && later_at(text, at + 3) =>
-            4,
+    let ones = leading_ones(first);
+    if ones == 0 {
+        return 1;
+    }
+    if !second_at(text, at + 1, first) {
+        return 0;
+    }
+    match ones {
+        2 => 2,
+        3 if later_at(text, at + 2) => 3,
+        4 if later_at(text, at + 2) && later_at(text, at + 3) => 4,
         _ => 0,
     }
 }
