@@ -33,7 +33,7 @@ const EDITS: usize = 600;
 
 const BYTES: usize = 1_049_600;
 
-// The number that a field's digits give, from the last of its characters on that is none, or that finds the number too large for a digit more.
+// What a field's digits give; at a character that is none, and at one for which the number has no room, it is 0 again.
 fn digits_of(field: &str) -> u64 {
     field.bytes().fold(0_u64, |value, b| match b {
         b'0'..=b'9' if value <= u64::MAX / 10 => {
