@@ -1,8 +1,9 @@
 -- Records moved within one list: where they stand, down (the first first) and up (the last first).
 -- Assumes nothing.
-use Rattle.std.proofs.Common.{subst, get_or-set_same, length-append, append_assoc, ◌≡◌, ℕ, zero, suc, ◌+◌, ◌*◌, ◌<◌, ◌≤◌, List, [], ◌∷◌, ◌++◌, length, get_or, set, take, drop, sym, refl, ap, ◌∙◌, append-nil, add-zero, add-suc, suc-add, zero-add, arith, length-set, length-drop}
+use Rattle.std.specs.List.{copy_within}
+use Rattle.std.proofs.Common.{subst, get_or-set_same, length-append, append_assoc, ◌-◌, ◌≡◌, ℕ, zero, suc, ◌+◌, ◌*◌, ◌<◌, ◌≤◌, List, [], ◌∷◌, ◌++◌, length, get_or, set, take, drop, sym, refl, ap, ◌∙◌, append-nil, add-zero, add-suc, suc-add, mul-le-mul_left, zero-add, arith, length-set, length-drop}
 use Rattle.std.proofs.lemmas.List.{set-set}
-use lib.Seq.{sets, sets-eq, set-get_or, ext_get_or, get_or-take, get_or-drop, length-take-le, take_at, drop_at}
+use lib.Seq.{sets, sets-eq, paste, set-get_or, ext_get_or, get_or-take, get_or-drop, length-take-le, take_at, drop_at}
 use Rattle.laws.specs.Blocks.{blocks, table}
 use Rattle.laws.proofs.Below.{entry}
 use Rattle.laws.proofs.Sets.{sets_append, sets_before, blocks-same, blocks_from, blocks_append, blocks_length, get_or_sets_above, get_or_sets_below}
@@ -130,9 +131,42 @@ module _ (size a b d e : ℕ) (a_in : a < size) (b_in : b < size) where
       unshifted : (by k : ℕ) → by ≡ 0 → k < size → shifted by (get_or l (i + k) 0) ≡ get_or (words l i size) k 0
       unshifted by k h v = omega (arith, small (i + k), words-at l i size k v)
 
+-- a part of a list copied over another part of it
+pub words_copied : (l : List ℕ) (s d n : ℕ) → s + n ≤ length l → d + n ≤ length l → copy_within l s (s + n) d ≡ sets l d (words l s n)
+words_copied l s d n from to =
+    let e : s + n - s ≡ n = omega arith in
+    let vs : List ℕ = take n (drop s l) in
+    let long : length vs ≡ n = length-take-le n (drop s l) (omega (arith, length-drop s l)) in
+    (λ t. paste l d (drop s l) (e t))
+    ∙ ap (λ (k : ℕ). take d l ++ vs ++ drop (d + k) l) (sym long)
+    ∙ sym (sets-eq vs l d (omega (arith, long)))
+    ∙ ap (sets l d) (sym (words_take l s n from))
+
 -- Records one after the other.
 
 module _ {w : ℕ} {g : List ℕ → ℕ → List ℕ} (r : Width w g) (l : List ℕ) where
+  -- n records' words brought from record s to record d, then made records there
+  pub all_brought : (ws : List ℕ) (s d n : ℕ) → w * (d + n) ≤ length l → ws ≡ sets l (w * d) (words l (w * s) (w * n))
+      → sets ws (w * d) (blocks (λ j. g ws (w * (d + j))) 0 n) ≡ sets l (w * d) (blocks (λ j. g l (w * (s + j))) 0 n)
+  all_brought ws s d n h e =
+      let m = length_words l (w * s) (w * n) in
+      let new : List ℕ = blocks (λ j. g l (w * (s + j))) 0 n in
+      ap (sets ws (w * d)) (blocks-same (λ j. g ws (w * (d + j))) (λ j. g l (w * (s + j))) 0 n (λ j v. r.near ws l (w * (d + j)) (w * (s + j)) (word j (omega arith))))
+      ∙ ap (λ (k : List ℕ). sets k (w * d) new) e
+      ∙ sets_again (words l (w * s) (w * n)) new l (w * d) (m ∙ omega (arith, blocks_length (λ j. g l (w * (s + j))) w (λ j. r.wide l (w * (s + j))) 0 n)) (omega arith)
+    where
+      word : (j : ℕ) → j + 1 ≤ n → (t : ℕ) → t < w → get_or ws (w * (d + j) + t) 0 ≡ get_or l (w * (s + j) + t) 0
+      word j u t v =
+          let f = mul-le-mul_left w u in
+          let m = length_words l (w * s) (w * n) in
+          let to : w * (d + j) + t ≡ w * d + (w * j + t) = omega arith in
+          let from : w * s + (w * j + t) ≡ w * (s + j) + t = omega arith in
+          ap (λ (k : List ℕ). get_or k (w * (d + j) + t) 0) e
+          ∙ ap (λ (i : ℕ). get_or (sets l (w * d) (words l (w * s) (w * n))) i 0) to
+          ∙ get_or_sets_in (words l (w * s) (w * n)) l (w * d) (w * j + t) (omega arith) (omega arith)
+          ∙ words-at l (w * s) (w * n) (w * j + t) (omega arith)
+          ∙ ap (λ (i : ℕ). get_or l i 0) from
+
   module _ (at : ℕ → ℕ) where
     long : (i n : ℕ) → length (blocks (λ j. g l (at j)) i n) ≡ n * w
     long i n = blocks_length (λ j. g l (at j)) w (λ j. r.wide l (at j)) i n
@@ -182,34 +216,41 @@ module _ {w : ℕ} {g : List ℕ → ℕ → List ℕ} (r : Width w g) (l : List
         ∙ ap (sets ws b) (sym (append-nil (g ws (at j))))
         ∙ down_more ws base j 1 b (λ i. at j) e eb (λ i v. ap at (omega arith)) (λ i v. subst (λ (k : ℕ). b ≤ at k) (omega arith) h)
 
-    -- the one before
-    pub up_turn : (ws ws₁ : List ℕ) (j n b b₁ : ℕ) → ws₁ ≡ sets ws b (g ws (at j)) → ws ≡ sets l b₁ (blocks (λ j. g l (at j)) (j + 1) n) → b₁ ≡ b + w → at j + w ≤ b₁
-        → ws₁ ≡ sets l b (blocks (λ j. g l (at j)) j (1 + n))
-    up_turn ws ws₁ j n b b₁ now e eb h =
-        now
-        ∙ ap (sets ws b) (sym (append-nil (g ws (at j))))
-        ∙ up_more ws j (j + 1) 1 n b b₁ (λ i. at j) e refl (omega (arith, eb)) (λ i v. ap at (omega arith)) (λ i v. subst (λ (k : ℕ). at k + w ≤ b₁) (omega arith) h)
+-- Records brought a batch of k at a time.
+module _ {w : ℕ} {g : List ℕ → ℕ → List ℕ} (r : Width w g) (l ws ws₁ : List ℕ) (s d k : ℕ) where
+  abbrev f : ℕ → List ℕ
+  f j = g l (w * (s + j))
 
--- one of some words that were brought
-pub word_brought : (l m : List ℕ) (s d n k : ℕ) → d + n ≤ length l → k < n → m ≡ sets l d (words l s n) → get_or (words l s n) k 0 ≡ get_or m (d + k) 0
-word_brought l m s d n k to inside e =
-    let long = length_words l s n in
-    sym (ap (λ (ws : List ℕ). get_or ws (d + k) 0) e ∙ get_or_sets_in (words l s n) l d k (omega (arith, long)) (omega (arith, long)))
-
--- One record: its words copied, and then made a record there.
-module _ {w : ℕ} {g : List ℕ → ℕ → List ℕ} (r : Width w g) (l ws ws₁ : List ℕ) (s d : ℕ) (from : s + w ≤ length l) (to : d + w ≤ length l) where
-  pub record_brought : ws ≡ sets l d (words l s w) → ws₁ ≡ sets ws d (g ws d) → ws₁ ≡ sets l d (g l s)
-  record_brought e now =
+  -- the next batch after the first j, down
+  pub batch_down : (j done m : ℕ) → d ≤ s → done ≡ j → m ≡ j + k → ws ≡ sets l (w * d) (blocks f 0 done) → ws₁ ≡ sets ws (w * (d + j)) (blocks (λ i. g ws (w * (s + j + i))) 0 k)
+      → ws₁ ≡ sets l (w * d) (blocks f 0 m)
+  batch_down j done m way ed em e now =
+      let so : ws ≡ sets l (w * d) (blocks f 0 j) = e ∙ ap (λ (n : ℕ). sets l (w * d) (blocks f 0 n)) ed in
       now
-      ∙ ap (sets ws d) (r.near ws l d s word)
-      ∙ ap (λ (k : List ℕ). sets k d (g l s)) e
-      ∙ sets_again (words l s w) (g l s) l d (length_words l s w ∙ sym (r.wide l s)) (omega (arith, length_words l s w))
+      ∙ down_more r l (λ i. w * (s + i)) ws (w * d) j k (w * (d + j)) (λ i. w * (s + j + i)) so (omega arith) (λ i v. omega arith) (λ i v. above i)
+      ∙ ap (λ (n : ℕ). sets l (w * d) (blocks f 0 n)) (sym em)
     where
-      word : (t : ℕ) → t < w → get_or ws (d + t) 0 ≡ get_or l (s + t) 0
-      word t v =
-          ap (λ (k : List ℕ). get_or k (d + t) 0) e
-          ∙ get_or_sets_in (words l s w) l d t (omega (arith, length_words l s w)) (omega (arith, length_words l s w))
-          ∙ words-at l s w t v
+      above : (i : ℕ) → w * (d + j) ≤ w * (s + (j + i))
+      above i = let h : d + j ≤ s + (j + i) = omega arith in mul-le-mul_left w h
+
+  -- the batch before the n records from x on, up
+  pub batch_up : (j left x n m : ℕ) → s ≤ d → left ≡ j → x ≡ j + k → m ≡ k + n → ws ≡ sets l (w * (d + x)) (blocks f x n)
+      → ws₁ ≡ sets ws (w * (d + j)) (blocks (λ i. g ws (w * (s + j + i))) 0 k) → ws₁ ≡ sets l (w * (d + left)) (blocks f left m)
+  batch_up j left x n m way el q em e now =
+      now
+      ∙ up_more r l (λ i. w * (s + i)) ws j x k n (w * (d + j)) (w * (d + x)) (λ i. w * (s + j + i)) e q (ap (λ (y : ℕ). w * (d + y)) q ∙ omega arith) (λ i v. omega arith) (λ i v. below i v)
+      ∙ ap (λ (k : ℕ). sets l (w * (d + j)) (blocks f j k)) (sym em)
+      ∙ ap (λ (i : ℕ). sets l (w * (d + i)) (blocks f i m)) (sym el)
+    where
+      below : (i : ℕ) → i < k → w * (s + (j + i)) + w ≤ w * (d + x)
+      below i v = let h : s + (j + i) + 1 ≤ d + x = omega arith in omega (arith, mul-le-mul_left w h)
+
+  -- one batch: its words copied, and then made records
+  pub batch_brought : w * (s + k) ≤ length l → w * (d + k) ≤ length l → ws ≡ copy_within l (w * s) (w * (s + k)) (w * d) → ws₁ ≡ sets ws (w * d) (blocks (λ j. g ws (w * (d + j))) 0 k)
+      → ws₁ ≡ sets l (w * d) (blocks f 0 k)
+  batch_brought from to e now =
+      let end : w * (s + k) ≡ w * s + w * k = omega arith in
+      now ∙ all_brought r l ws s d k to (e ∙ ap (λ (n : ℕ). copy_within l (w * s) n (w * d)) end ∙ words_copied l (w * s) (w * d) (w * k) (omega arith) (omega arith))
 
 -- records that are the words where they stand
 pub blocks_still : (w : ℕ) (l : List ℕ) (f : ℕ → List ℕ) (from : ℕ) → ((j : ℕ) → f j ≡ words l (w * (from + j)) w) → (i n : ℕ) → sets l (w * (from + i)) (blocks f i n) ≡ l

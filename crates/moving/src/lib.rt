@@ -9,6 +9,9 @@ ghost use Rattle.moving.specs.Moved.{distance, moved_record, moved_records, move
 
 use records::{LINE, TOKEN};
 
+// How many records are brought at a time, so that they are shifted while they are in the cache.
+const BATCH: usize = 128;
+
 // From the base old to the base new, in the arithmetic of words.
 fn distance_of(old: u32, new: u32) -> u32
     ensures { result ≡ distance old new }
@@ -50,28 +53,24 @@ fn shift_records<const SIZE: usize, const A: usize, const B: usize>(
     }
 }
 
-// The record at word `from`, brought to word `to`, which may overlap: all its words are read before one is written.
-fn bring_record<const SIZE: usize, const A: usize, const B: usize>(
+// `count` records from `from` to `to`, which may overlap: their words are moved, and then they are shifted where they stand.
+fn bring_records<const SIZE: usize, const A: usize, const B: usize>(
     ws: &mut [u32],
     from: usize,
     to: usize,
+    count: usize,
     d: u32,
     e: u32,
 )
     requires shifted_in_record { (A < SIZE) × (B < SIZE) }
-    requires in_bounds { (from + SIZE ≤ length ws.old) × (to + SIZE ≤ length ws.old) }
-    ensures { ws.new ≡ sets ws.old to (moved_record SIZE A B d e ws.old from) }
+    requires in_bounds { (SIZE * (from + count) ≤ length ws.old) × (SIZE * (to + count) ≤ length ws.old) }
+    ensures { ws.new ≡ sets ws.old (SIZE * to) (moved_records SIZE A B d e ws.old from count) }
 {
-    let mut record = [0; SIZE];
-    record.copy_from_slice(&ws[from..from + SIZE]);
-    let x = record[A].wrapping_add(d);
-    let y = record[B].wrapping_add(e);
-    ws[to..to + SIZE].copy_from_slice(&record);
-    ws[to + A] = x;
-    ws[to + B] = y;
+    ws.copy_within(SIZE * from..SIZE * (from + count), SIZE * to);
+    shift_records::<SIZE, A, B>(ws, to, count, d, e);
 }
 
-// `count` records brought down, the first one first, so that none is written over before it is brought.
+// `count` records brought down, the first batch first, so that none is written over before it is moved.
 fn move_down<const SIZE: usize, const A: usize, const B: usize>(
     ws: &mut [u32],
     from: usize,
@@ -85,12 +84,14 @@ fn move_down<const SIZE: usize, const A: usize, const B: usize>(
     requires in_bounds { SIZE * (from + count) ≤ length ws.old }
     ensures { ws.new ≡ sets ws.old (SIZE * to) (moved_records SIZE A B d e ws.old from count) }
 {
-    for j in 0..count {
-        bring_record::<SIZE, A, B>(ws, SIZE * (from + j), SIZE * (to + j), d, e);
+    for i in 0..count.div_ceil(BATCH) {
+        let j = BATCH * i;
+        let n = BATCH.min(count - j);
+        bring_records::<SIZE, A, B>(ws, from + j, to + j, n, d, e);
     }
 }
 
-// `count` records brought up, the last one first. Up and down stay two: what holds between two records is that of the records behind in the one,
+// `count` records brought up, the last batch first. Up and down stay two: what holds between two batches is that of the records behind in the one,
 // and that of the records before in the other.
 fn move_up<const SIZE: usize, const A: usize, const B: usize>(
     ws: &mut [u32],
@@ -105,12 +106,15 @@ fn move_up<const SIZE: usize, const A: usize, const B: usize>(
     requires in_bounds { SIZE * (to + count) ≤ length ws.old }
     ensures { ws.new ≡ sets ws.old (SIZE * to) (moved_records SIZE A B d e ws.old from count) }
 {
-    for j in (0..count).rev() {
-        bring_record::<SIZE, A, B>(ws, SIZE * (from + j), SIZE * (to + j), d, e);
+    for i in (0..count.div_ceil(BATCH)).rev() {
+        let j = BATCH * i;
+        let n = BATCH.min(count - j);
+        bring_records::<SIZE, A, B>(ws, from + j, to + j, n, d, e);
     }
 }
 
-// `count` records from `from` to `to`, which may overlap.
+// `count` records from `from` to `to`, which may overlap. The numbers stay apart: each batch has places and a count of its own, so that a struct
+// of them would be made again at each call.
 fn move_records<const SIZE: usize, const A: usize, const B: usize>(
     ws: &mut [u32],
     from: usize,
