@@ -1,4 +1,5 @@
-// Bytes copied from one buffer to another.
+// Bytes copied from one buffer to another, one at a time: `copy_from_slice` over parts of any length is a call of `memmove`, which the archive for C
+// would ask for from outside.
 #![tactic(auto)]
 
 ghost use Rattle.std.specs.Prelude.{◌≡◌, ◌+◌, ◌-◌, ◌≤◌, length, take, drop};
@@ -11,7 +12,9 @@ pub fn copy_bytes(dst: &mut [u8], at: usize, src: &[u8])
     requires { at + length src.now ≤ length dst.old }
     ensures { dst.new ≡ sets dst.old at src.now }
 {
-    dst[at..at + src.len()].copy_from_slice(src);
+    for j in 0..src.len() {
+        dst[at + j] = src[j];
+    }
 }
 
 // The first n bytes of the text, of which a..b become w, at the spare's front.
@@ -29,5 +32,5 @@ pub fn copy_back(spare: &[u8], text: &mut [u8], a: usize, n: usize)
     requires { (a ≤ n) × (n ≤ length spare.now) × (n ≤ length text.old) }
     ensures { text.new ≡ sets text.old a (drop a (take n spare.now)) }
 {
-    text[a..n].copy_from_slice(&spare[a..n]);
+    copy_bytes(text, a, &spare[a..n]);
 }

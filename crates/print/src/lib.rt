@@ -80,7 +80,7 @@ impl Printer for Lent<'_> {
 
     fn put_bytes(&mut self, bytes: &[u8]) {
         let next = self.size + bytes.len();
-        self.out[self.size..next].copy_from_slice(bytes);
+        copies::copy_bytes(self.out, self.size, bytes);
         self.size = next;
     }
 
