@@ -1,6 +1,6 @@
 -- A page held against the reading of its text line by line, as a loop goes: so far, one line more, and each end.
 -- Assumes nothing.
-use Rattle.std.proofs.Common.{ℕ, ◌≡◌, ◌≢◌, ◌+◌, ◌*◌, ◌≤◌, ◌<◌, refl, sym, ap, ◌∙◌, Bool, true, false, ◌&&◌, List, ◌∷◌, [], ◌++◌, length, eqb, Result, Ok, Err, arith}
+use Rattle.std.proofs.Common.{ℕ, ◌≡◌, ◌≢◌, ◌+◌, ◌*◌, ◌≤◌, ◌<◌, refl, sym, ap, ◌∙◌, Bool, true, false, ◌&&◌, List, ◌∷◌, [], ◌++◌, length, eqb, Result, Ok, arith}
 use Rattle.std.proofs.lemmas.List.{length-replicate}
 use mathlib.Core.Bool.{and-false}
 use borrow.Author.Tests.{eq-eqb, ne_eqb}
@@ -10,7 +10,7 @@ use Rattle.rules.specs.Reading.{Entry, entry, byte_sum, token_sum, line_at, size
 use Rattle.rules.specs.Limits.{max_levels, LineLimits}
 use Rattle.rules.specs.Records.{line_size, token_size, line_need, token_need, line_record, line_records, token_words, token_records, end_entry, with_end}
 use Rattle.rules.proofs.ReadingLaws.{token_sum_append}
-use Rattle.rules.proofs.LoopLaws.{read-end, read-stuck}
+use Rattle.rules.proofs.LoopLaws.{read-end}
 use Rattle.records.specs.Sinks.{Compares}
 use Rattle.records.specs.SinkLaws.{held-laws}
 use Rattle.records.specs.declared.Place.{Place}
@@ -22,7 +22,7 @@ use Rattle.lines.specs.Steps.{StepIs}
 use Rattle.lines.specs.declared.Next.{Next}
 use Rattle.lines.proofs.Lines.{PassTo, pass-start, next-pass, size-inside, small}
 use Rattle.rereading.proofs.Rooms.{line_place, line_then, token_place, token_then}
-use Rattle.checking.proofs.Held.{sinks-agree, answer, found, read_lem, unread_lem, differs_lem}
+use Rattle.checking.proofs.Held.{sinks-agree, answer, found, read_lem, differs_lem}
 
 -- The lines up to this place are read, to the state z, and two sinks took their words: l₀ and k₀ at first, l and k now.
 pub record HeldTo (lim : LineLimits) (t : List ℕ) (l₀ k₀ : Held) (p : Place) (z : State) (l k : Held) : Type 0 where
@@ -77,9 +77,6 @@ module _ {lim : LineLimits} {t : List ℕ} {l₀ k₀ : Held} {p : Place} {z : S
     -- a word is another
     pub differs : (l.same && k.same) ≡ false → false ≡ goal
     differs e = differs_lem lines tokens lim t count total sizes p.start v.es z v.pass.to (sym (sinks-agree lines tokens v.es over_lines over_tokens v.line-words v.token-words) ∙ e)
-
-    pub stuck : p.start < length t → (u : Unread) (z' : State) → NextIs lim t p z z' (Err u) → false ≡ goal
-    stuck h u z' x = unread_lem lines tokens lim t count total sizes v.es x.0 (read-stuck lim initial t p.start v.es z v.pass.to x.0 h x.1)
 
     -- No line is left.
     module _ (h : length t ≤ p.start) where

@@ -1,7 +1,7 @@
 // A page held against a fresh reading of its text, line by line.
 #![tactic(auto)]
 
-ghost use Rattle.std.specs.Prelude.{◌≡◌, ◌&&◌, ◌+◌, ◌*◌, ◌≤◌, length};
+ghost use Rattle.std.specs.Prelude.{◌≡◌, ◌&&◌, ◌+◌, ◌*◌, ◌≤◌, ◌<◌, length};
 ghost use Rattle.rules.specs.Records.{line_size, token_size, header, read_lines, fresh_reading};
 ghost use Rattle.rules.specs.Page.{is_recorded};
 ghost use Rattle.rules.specs.Check.{check_reply};
@@ -9,8 +9,10 @@ ghost use Rattle.header.specs.Pages.{lent_page};
 ghost use Rattle.refusals.specs.Limits.{line_limits_of};
 ghost use Rattle.refusals.specs.Replies.{reply_of};
 ghost use Rattle.checking.specs.Answers.{check_values};
+ghost use Rattle.checking.specs.Held.{NextHeld};
 
 use header::Page;
+use lines::Next;
 use records::{Held, Place, State};
 use refusals::{LineLimits, Refusal};
 use tables::Tables;
@@ -20,6 +22,39 @@ fn both_same(lines: &Held, tokens: &Held) -> bool
     ensures { result ≡ (lines.now.same && tokens.now.same) }
 {
     lines.same() && tokens.same()
+}
+
+// The line at this place, held against the records of a page: where the next one starts; None once a word is another, or where it does not read.
+fn next_held<'p>(
+    tables: &Tables,
+    text: &[u8],
+    lines: &mut Held<'p>,
+    tokens: &mut Held<'p>,
+    place: Place,
+    limits: LineLimits,
+    state: &mut State,
+) -> Option<Next>
+    requires start_in_bounds { (place.start < length text.now) × (length text.now ≤ 1_048_576) }
+    requires few { (place.line ≤ 1_048_576) × ((place.first ≤ 3_000_000) × (state.old.depth ≤ 4_194_304)) }
+    ensures { NextHeld (line_limits_of limits) text.now place state.old state.new lines.old lines.new tokens.old tokens.new result }
+{
+    records::put_line(lines, place, state);
+    if !lines.same() {
+        return None;
+    }
+    let at = place.start as usize;
+    let end = lines::line_end(text, at);
+    let Ok(count) = line::read_line_until_over(tables, &text[at..end], tokens, place, limits, state)
+    else {
+        return None;
+    };
+    if !both_same(lines, tokens) {
+        return None;
+    }
+    Some(Next {
+        at: lines::past_lf(text, end),
+        tokens: count,
+    })
 }
 
 // The lines of a text, held against the records of a page with `count` lines and `total` tokens, up to the first difference: `read_on` would pass
@@ -46,10 +81,9 @@ fn lines_agree(
         start: 0,
     };
     while (place.start as usize) < text.len() {
-        let Ok(next) = lines::next_line(
+        let Some(next) = next_held(
             &tables,
             text,
-            place.start as usize,
             &mut line_sink,
             &mut token_sink,
             place,
@@ -58,9 +92,6 @@ fn lines_agree(
         ) else {
             return false;
         };
-        if !both_same(&line_sink, &token_sink) {
-            return false;
-        }
         place = Place {
             line: place.line + 1,
             first: place.first + next.tokens,

@@ -30,6 +30,7 @@ use Rattle.records.proofs.Takes.{then-takes, fits_after, fits-less, fits-endless
 use Rattle.line.specs.LineCuts.{failure_in, line_cuts_of, tokens_of, tokens_end, Taken}
 use Rattle.literals.specs.declared.Failure as code
 use Rattle.line.specs.declared.Ends.{Ends}
+use Rattle.line.proofs.Whole.{words_append}
 
 -- tokens in front of cuts
 unfoldable pub with_tokens : List Token → Cuts → Cuts
@@ -121,6 +122,15 @@ module _ {S : Type 0} {room : S → Option ℕ} {takes : S → S → ℕ → Lis
     pub at-end : length l ≤ t.at → cuts_from 0 0 l ≡ cuts v.done
     unfolding with_tokens
     at-end h = v.rest ∙ ap (with_tokens v.done) (cuts-end t.at l h) ∙ ap cuts (append-nil v.done)
+
+    -- a sink that takes any words takes those of the rest
+    pub over : ((at : ℕ) (xs : List ℕ) → takes tokens tokens at xs) → Taken (takes tokens₀ tokens) place (tokens_of (cuts_from 0 0 l))
+    unfolding with_tokens
+    over o = go (cuts_from t.at 0 (drop t.at l)) v.rest
+      where
+        go : (y : Cuts) → cuts_from 0 0 l ≡ with_tokens v.done y → Taken (takes tokens₀ tokens) place (tokens_of (cuts_from 0 0 l))
+        go (cuts us) e = rw e (then-takes laws v.words refl (o _ _) (sym (words_append place.start (place.line + 1) v.done us)))
+        go (stops f) e = rw e tt
 
     module _ (h : t.at < length l) where
       pub at-comment : cut (drop t.at l) ≡ comment → cuts_from 0 0 l ≡ cuts v.done

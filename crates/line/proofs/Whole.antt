@@ -2,7 +2,7 @@
 -- Assumes nothing.
 use Prim.Native.Nat.{ℕ, ◌+◌, ◌*◌, ◌≤◌}
 use mathlib.Core.Path.{◌≡◌, refl, sym, ap, ◌∙◌}
-use mathlib.Core.Bool.{Bool, false}
+use mathlib.Core.Bool.{Bool, true, false, ◌&&◌, true≢false}
 use mathlib.Core.List.{List, [], ◌∷◌, ◌++◌, append_assoc}
 use native.Mathlib.Omega.{arith}
 use native.Mathlib.Numerals.{add-one}
@@ -30,6 +30,11 @@ pub words_append : (p l : ℕ) (xs ys : List Token) → token_words p l (xs ++ y
 unfolding token_words
 words_append p l [] ys = refl
 words_append p l (x ∷ xs) ys = rw (words_append p l xs ys)
+
+-- of two that hold, the other
+pub over-both : (a b : Bool) → (a && b) ≡ true → b ≡ true
+over-both true b e = e
+over-both false b e = absurd (true≢false (sym e))
 
 -- The answers of the cuts.
 
@@ -82,6 +87,18 @@ module _ {S : Type 0} {room : S → Option ℕ} {takes : S → S → ℕ → Lis
           (then-takes laws (joined (rw e at e₂)) long e₃
           (ap (λ (i : ℕ). two ts ++ (newline ∷ (place.start + length line) ∷ 0 ∷ (place.line + 1) ∷ i ∷ [])) (add-one (length line)) ∙ sym (words_append place.start (place.line + 1) (leading lead ++ ts) nl)
           ∙ ap (token_words place.start (place.line + 1)) (append_assoc (leading lead) ts nl)))
+
+    -- a sink that takes any words takes those of the rest, and the Newline
+    pub whole-over : {t₂ : S} (x : Cuts) → Taken (takes t₁ t₂) (inner m) (tokens_of x) → ((at : ℕ) (xs : List ℕ) → takes t₂ t₂ at xs) → Taken (takes t₀ t₂) place (all x)
+    whole-over (cuts ts) e₂ o = whole-ends ts refl (cuts ts) refl e₂ (o _ _)
+    whole-over (stops f) e₂ o = tt
+
+    -- where the cuts answer a failure, they fail, or the sink is over
+    pub whole-fails : {t₂ : S} (over : Bool) (d : ℕ) (f : code.Failure) (x : Cuts) → (over ≡ false → Err f ≡ line_cuts_of d x) → (over ≡ true → (at : ℕ) (xs : List ℕ) → takes t₂ t₂ at xs)
+        → Taken (takes t₁ t₂) (inner m) (tokens_of x) → Taken (takes t₀ t₂) place (all x)
+    whole-fails true d f x v o e₂ = whole-over x e₂ (o refl)
+    whole-fails false d f (stops g) v o e₂ = tt
+    whole-fails false d f (cuts ts) v o e₂ = let q : Err f ≡ line_cuts_of d (cuts ts) = v refl in let z : ◌≡◌ {A = ℕ} 0 1 = cc in absurd (omega arith)
 
 -- The reply of a line whose levels are known.
 

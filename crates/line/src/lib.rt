@@ -1,7 +1,7 @@
 // One line, read from the state before it.
 #![tactic(auto)]
 
-ghost use Rattle.std.specs.Prelude.{◌≡◌, ◌+◌, ◌≤◌, length, Ok};
+ghost use Rattle.std.specs.Prelude.{◌≡◌, false, ◌&&◌, ◌+◌, ◌≤◌, length, Ok};
 ghost use Rattle.rules.specs.Lists.{run};
 ghost use Rattle.rules.specs.Line.{moved_by, is_space, cuts_from, read_line};
 ghost use Rattle.literals.specs.Cuts.{failure_of};
@@ -45,9 +45,17 @@ fn ends_at(t: Cursor) -> Ends
     }
 }
 
+// Whether to read on is asked for, and of no use.
+fn ends_early<S: Sink, const EARLY: bool>(tokens: &S) -> bool
+    ensures { result ≡ (EARLY && S.over tokens.now) }
+{
+    EARLY && tokens.is_over()
+}
+
 // The tokens of a line that begins with so many spaces. Words, numbers, signs and `#` are told in the loop itself, the others are called
-// for. A sink that keeps no records asks for no kinds of words. A turn passes what it cuts, so no range gives the offsets.
-fn cut_line<S: Sink>(
+// for. A sink that keeps no records asks for no kinds of words. A turn passes what it cuts, so no range gives the offsets. Where EARLY is asked for
+// the cutting ends once the sink is over, with an answer that says nothing; what the sink took holds then too.
+fn cut_line<S: Sink, const EARLY: bool>(
     tables: &Tables,
     line: &[u8],
     spaces: usize,
@@ -58,12 +66,15 @@ fn cut_line<S: Sink>(
     requires spaces_value { spaces ≡ run is_space line.now }
     requires line_bound { (place.start + length line.now ≤ 1_048_576) × ((place.line ≤ 4_194_304) × (depth ≤ 4_194_304)) }
     requires room { Fits (S.room tokens.old) (tokens_end place (tokens_of (cuts_from 0 0 line.now))) }
-    ensures value { result ≡ line_cuts_of depth (cuts_from 0 0 line.now) }
+    ensures value { (EARLY && S.over tokens.new) ≡ false → result ≡ line_cuts_of depth (cuts_from 0 0 line.now) }
     ensures taken { Taken (S.takes tokens.old tokens.new) place (tokens_of (cuts_from 0 0 line.now)) }
 {
     let named = tokens.is_named();
     let mut t = cursor::cursor_at(spaces, depth);
     while t.at < line.len() {
+        if ends_early::<S, EARLY>(tokens) {
+            return Ok(ends_at(t));
+        }
         let at = t.at;
         match tables.class_of(line[at]) {
             Class::Blank => {
@@ -122,7 +133,7 @@ impl From<Failure> for Halt {
 }
 
 // A line whose levels are known: what stands at its start, its cuts, and the Newline; the number of its tokens.
-fn cut_after<S: Sink>(
+fn cut_after<S: Sink, const EARLY: bool>(
     tables: &Tables,
     line: &[u8],
     spaces: usize,
@@ -134,7 +145,7 @@ fn cut_after<S: Sink>(
     requires line_bound { (place.start + length line.now ≤ 1_048_576) × ((place.line ≤ 4_194_304) × ((place.first ≤ 3_000_000) × (state.old.depth ≤ 4_194_304))) }
     requires lead_bound { Within (Ok lead) × (spaces ≡ run is_space line.now) }
     requires room { Fits (S.room tokens.old) (tokens_end place (tokens_of (whole_line lead line.now (cuts_from 0 0 line.now)))) }
-    ensures value { (result, state.new) ≡ whole_of lead state.old (cuts_from 0 0 line.now) }
+    ensures value { (EARLY && S.over tokens.new) ≡ false → (result, state.new) ≡ whole_of lead state.old (cuts_from 0 0 line.now) }
     ensures taken { Taken (S.takes tokens.old tokens.new) place (tokens_of (whole_line lead line.now (cuts_from 0 0 line.now))) }
 {
     let leading = cursor::put_leading(tokens, place, lead);
@@ -142,12 +153,43 @@ fn cut_after<S: Sink>(
         first: place.first + leading,
         ..place
     };
-    let end = cut_line(tables, line, spaces, tokens, inner, state.depth())?;
+    let end = cut_line::<S, EARLY>(tables, line, spaces, tokens, inner, state.depth())?;
+    if ends_early::<S, EARLY>(tokens) {
+        return Ok(0);
+    }
     let count = leading + end.count;
     let size = line.len() as u32;
     records::put_token(tokens, place, count, kinds::NEWLINE, size, 0);
     state.set_tokens(end.depth, end.arrow);
     Ok(count + 1)
+}
+
+// One line from the state before it, to its end, or where EARLY is asked for up to where the sink is over.
+fn read_tokens<S: Sink, const EARLY: bool>(
+    tables: &Tables,
+    line: &[u8],
+    tokens: &mut S,
+    place: Place,
+    limits: LineLimits,
+    state: &mut State,
+) -> Result<usize, Halt>
+    requires line_bound { (place.start + length line.now ≤ 1_048_576) × ((place.line ≤ 4_194_304) × ((place.first ≤ 3_000_000) × (state.old.depth ≤ 4_194_304))) }
+    requires room { Fits (S.room tokens.old) (tokens_end place (tokens_in (read_line (line_limits_of limits) state.old line.now))) }
+    ensures value { (EARLY && S.over tokens.new) ≡ false → counted_of result state.new ≡ counted (read_line (line_limits_of limits) state.old line.now) }
+    ensures left { (EARLY && S.over tokens.new) ≡ false → state.new ≡ state_left (line_limits_of limits) state.old line.now }
+    ensures taken { Taken (S.takes tokens.old tokens.new) place (tokens_in (read_line (line_limits_of limits) state.old line.now)) }
+{
+    let spaces = indent::leading_spaces(tables, line);
+    match levels::levels_of(limits, line, spaces, state) {
+        Ok(lead) => Ok(cut_after::<S, EARLY>(tables, line, spaces, tokens, place, lead, state)?),
+        Err(Misfit::Unequal) => Err(Halt::Fails(Failure {
+            detail: detail::BAD_INDENT,
+            found: 0,
+            at: 0,
+            size: indent::leading_indent_bytes(line),
+        })),
+        Err(Misfit::Beyond(number)) => Err(Halt::OverLimit(number)),
+    }
 }
 
 // One line from the state before it: the number of its tokens, and the state after it.
@@ -165,15 +207,23 @@ pub fn read_line<S: Sink>(
     ensures left { state.new ≡ state_left (line_limits_of limits) state.old line.now }
     ensures taken { Taken (S.takes tokens.old tokens.new) place (tokens_in (read_line (line_limits_of limits) state.old line.now)) }
 {
-    let spaces = indent::leading_spaces(tables, line);
-    match levels::levels_of(limits, line, spaces, state) {
-        Ok(lead) => Ok(cut_after(tables, line, spaces, tokens, place, lead, state)?),
-        Err(Misfit::Unequal) => Err(Halt::Fails(Failure {
-            detail: detail::BAD_INDENT,
-            found: 0,
-            at: 0,
-            size: indent::leading_indent_bytes(line),
-        })),
-        Err(Misfit::Beyond(number)) => Err(Halt::OverLimit(number)),
-    }
+    read_tokens::<S, false>(tables, line, tokens, place, limits, state)
+}
+
+// The same, but that it ends once the sink is over. The answer and the state left say nothing then; what the sink took holds.
+pub fn read_line_until_over<S: Sink>(
+    tables: &Tables,
+    line: &[u8],
+    tokens: &mut S,
+    place: Place,
+    limits: LineLimits,
+    state: &mut State,
+) -> Result<usize, Halt>
+    requires line_bound { (place.start + length line.now ≤ 1_048_576) × ((place.line ≤ 4_194_304) × ((place.first ≤ 3_000_000) × (state.old.depth ≤ 4_194_304))) }
+    requires room { Fits (S.room tokens.old) (tokens_end place (tokens_in (read_line (line_limits_of limits) state.old line.now))) }
+    ensures value { S.over tokens.new ≡ false → counted_of result state.new ≡ counted (read_line (line_limits_of limits) state.old line.now) }
+    ensures left { S.over tokens.new ≡ false → state.new ≡ state_left (line_limits_of limits) state.old line.now }
+    ensures taken { Taken (S.takes tokens.old tokens.new) place (tokens_in (read_line (line_limits_of limits) state.old line.now)) }
+{
+    read_tokens::<S, true>(tables, line, tokens, place, limits, state)
 }

@@ -1,16 +1,20 @@
 -- The laws of each sink.
 -- Assumes nothing.
-use Rattle.std.proofs.Common.{ℕ, ◌+◌, ◌≡◌, refl, sym, ap, ◌∙◌, Bool, true, false, ◌&&◌, List, ◌++◌, length, drop, Some, None, true≢false}
+use Rattle.std.proofs.Common.{ℕ, ◌+◌, ◌≡◌, refl, sym, ap, ◌∙◌, Bool, true, false, not, ◌&&◌, List, ◌++◌, length, drop, Some, None, true≢false}
 use Rattle.std.proofs.lemmas.List.Edits.{sets}
 use lib.Seq.{length-sets}
 use Rattle.laws.proofs.Sets.{sets_append}
 use Rattle.rules.specs.Lists.{begins}
 use mathlib.Core.Bool.{and_assoc}
 use Rattle.rules.proofs.BeginsLaws.{begins-parts}
-use Rattle.records.specs.Sinks.{SinkLaws, NowhereTakes, Writes, Compares}
+use Rattle.records.specs.Sinks.{SinkLaws, OverLaw, NowhereTakes, Writes, Compares}
 use Rattle.records.specs.declared.sink.Nowhere.{Nowhere}
 use Rattle.records.specs.declared.sink.Written.{Written}
 use Rattle.records.specs.declared.sink.Held.{Held}
+
+-- a sink that is never over
+pub never-over : {S : Type 0} (takes : S → S → ℕ → List ℕ → Type 0) → OverLaw (λ (s : S). false) takes
+never-over takes s at xs e = absurd (true≢false (sym e))
 
 pub nowhere-laws : SinkLaws (λ (s : Nowhere). None) NowhereTakes false
 nowhere-laws = record {
@@ -56,3 +60,10 @@ held-laws = record {
   room-kept = λ s t at xs m. refl;
   taken-unnamed = λ e s t at xs ys h m. absurd (true≢false e);
 }
+
+off : (b c : Bool) → not b ≡ true → b ≡ (b && c)
+off true c e = absurd (true≢false (sym e))
+off false c e = refl
+
+pub held-over : OverLaw (λ (s : Held). not s.same) Compares
+held-over s at xs e = record { buffer = refl; same = off s.same (begins xs (drop at s.words.now)) e }

@@ -1,6 +1,6 @@
 -- What sinks promise.
 -- Assumes nothing.
-use Rattle.std.specs.Prelude.{ℕ, ◌+◌, ◌≤◌, ◌≡◌, Bool, false, ◌&&◌, List, [], ◌++◌, length, drop, Option, Some, None}
+use Rattle.std.specs.Prelude.{ℕ, ◌+◌, ◌≤◌, ◌≡◌, Bool, true, false, ◌&&◌, List, [], ◌++◌, length, drop, Option, Some, None}
 use Rattle.std.proofs.lemmas.List.Edits.{sets}
 use Rattle.rules.specs.Lists.{begins}
 use Rattle.records.specs.declared.sink.Nowhere.{Nowhere}
@@ -20,6 +20,10 @@ pub record SinkLaws {S : Type 0} (room : S → Option ℕ) (takes : S → S → 
   pub taken-behind : (s t u : S) (at : ℕ) (xs ys : List ℕ) → takes s t at xs → takes t u (at + length xs) ys → takes s u at (xs ++ ys)
   pub room-kept : (s t : S) (at : ℕ) (xs : List ℕ) → takes s t at xs → room t ≡ room s
   pub taken-unnamed : named ≡ false → (s t : S) (at : ℕ) (xs ys : List ℕ) → length xs ≡ length ys → takes s t at xs → takes s t at ys
+
+-- a sink that is over takes any words, and stays as it is
+abbrev pub OverLaw : {S : Type 0} (over : S → Bool) (takes : S → S → ℕ → List ℕ → Type 0) → Type 0
+OverLaw {S} over takes = (s : S) (at : ℕ) (xs : List ℕ) → over s ≡ true → takes s s at xs
 
 -- Nothing is kept.
 

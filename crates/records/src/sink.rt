@@ -1,6 +1,6 @@
 // What becomes of the words of the records that a pass over lines gives.
 ghost use Rattle.std.specs.Prelude.{◌≡◌, true, ℕ, Bool, List, ◌+◌, ◌*◌, ◌≤◌, length, Option, Some};
-ghost use Rattle.records.specs.Sinks.{Fits, SinkLaws};
+ghost use Rattle.records.specs.Sinks.{Fits, SinkLaws, OverLaw};
 
 // Where the words of records go.
 pub trait Sink {
@@ -15,6 +15,11 @@ pub trait Sink {
 
     ghost laws: { SinkLaws room takes named };
 
+    // nothing that it takes changes it any more
+    ghost over: { Self → Bool };
+
+    ghost over_law: { OverLaw over takes };
+
     // The words of the record that is n records behind this one.
     fn put(&mut self, first: usize, n: usize, words: &[u32])
         requires some { 1 ≤ length words.now }
@@ -24,6 +29,10 @@ pub trait Sink {
     // Whether the kinds of words are asked for.
     fn is_named(&self) -> bool
         ensures { result ≡ named };
+
+    // Whether nothing that it takes changes it any more.
+    fn is_over(&self) -> bool
+        ensures { result ≡ over self.now };
 }
 
 // Nothing is kept: the records are only counted.
@@ -33,7 +42,7 @@ pub struct Nowhere;
 impl Sink for Nowhere {
     ghost use Rattle.std.specs.Prelude.{false, None};
     ghost use Rattle.records.specs.Sinks.{NowhereTakes};
-    ghost use Rattle.records.specs.SinkLaws.{nowhere-laws};
+    ghost use Rattle.records.specs.SinkLaws.{nowhere-laws, never-over};
 
     ghost named = { false };
 
@@ -43,9 +52,17 @@ impl Sink for Nowhere {
 
     ghost laws = { nowhere-laws };
 
+    ghost over = { λ s. false };
+
+    ghost over_law = { never-over NowhereTakes };
+
     fn put(&mut self, _first: usize, _n: usize, _words: &[u32]) {}
 
     fn is_named(&self) -> bool {
+        false
+    }
+
+    fn is_over(&self) -> bool {
         false
     }
 }
@@ -66,9 +83,9 @@ impl<'a> Written<'a> {
 }
 
 impl Sink for Written<'_> {
-    ghost use Rattle.std.specs.Prelude.{true, Some, length};
+    ghost use Rattle.std.specs.Prelude.{true, false, Some, length};
     ghost use Rattle.records.specs.Sinks.{Writes};
-    ghost use Rattle.records.specs.SinkLaws.{written-laws};
+    ghost use Rattle.records.specs.SinkLaws.{written-laws, never-over};
 
     ghost named = { true };
 
@@ -78,6 +95,10 @@ impl Sink for Written<'_> {
 
     ghost laws = { written-laws };
 
+    ghost over = { λ s. false };
+
+    ghost over_law = { never-over Writes };
+
     fn put(&mut self, first: usize, n: usize, words: &[u32]) {
         let at = words.len() * (first + n);
         self.words[at..at + words.len()].copy_from_slice(words);
@@ -85,6 +106,10 @@ impl Sink for Written<'_> {
 
     fn is_named(&self) -> bool {
         true
+    }
+
+    fn is_over(&self) -> bool {
+        false
     }
 }
 
@@ -111,9 +136,9 @@ impl<'a> Held<'a> {
 }
 
 impl Sink for Held<'_> {
-    ghost use Rattle.std.specs.Prelude.{true, None};
+    ghost use Rattle.std.specs.Prelude.{true, not, None};
     ghost use Rattle.records.specs.Sinks.{Compares};
-    ghost use Rattle.records.specs.SinkLaws.{held-laws};
+    ghost use Rattle.records.specs.SinkLaws.{held-laws, held-over};
 
     ghost named = { true };
 
@@ -123,6 +148,10 @@ impl Sink for Held<'_> {
 
     ghost laws = { held-laws };
 
+    ghost over = { λ s. not s.same };
+
+    ghost over_law = { held-over };
+
     // An index that is no number is beyond the buffer.
     fn put(&mut self, first: usize, n: usize, words: &[u32]) {
         let at = words.len().saturating_mul(first.saturating_add(n));
@@ -131,5 +160,9 @@ impl Sink for Held<'_> {
 
     fn is_named(&self) -> bool {
         true
+    }
+
+    fn is_over(&self) -> bool {
+        !self.same
     }
 }

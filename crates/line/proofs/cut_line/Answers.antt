@@ -16,7 +16,8 @@ use Rattle.literals.specs.Cuts.{failure_of}
 use Rattle.cut.specs.Cuts.{cut_of, cut_named, kind_asked}
 use Rattle.cut.proofs.Words.{blank_cut, hash_cut, word-token, number-token, sign-token}
 use Rattle.cut.proofs.Plain.{named_blank, named-comment, named-fails}
-use Rattle.line.proofs.Progress.{start, at-end, at-comment, at-failure, past-blank, past-token, may_pass, has_room, goes_on, ended, stopped, TokenAt, token-at, failure-at}
+use Rattle.line.proofs.Progress.{start, at-end, at-comment, at-failure, past-blank, past-token, may_pass, has_room, goes_on, over, ended, stopped, TokenAt, token-at, failure-at}
+use Rattle.line.proofs.Whole.{over-both}
 use Rattle.line.proofs.cut_line.Goals as goal
 
 -- The tokens that the loop tells by itself: a word, a number, a sign.
@@ -52,19 +53,19 @@ loop-t-preserved-in-Blank g c =
     past-blank g.S.Sink.laws c.loop-t.invariant h (blank_cut _ _ h (sym c.class_of.ensures ∙ ap class_number c.in-Blank.is)) _ c.past_blank-t.ensures
 
 pub returns-in-Hash-clause-value : goal.returns-in-Hash-clause-value
-returns-in-Hash-clause-value g c =
+returns-in-Hash-clause-value g c = λ e.
     let h = c.loop-t-test.true in
     let v = c.loop-t.invariant in
-    (ended g.S.Sink.laws v (at-comment g.S.Sink.laws v h (hash_cut _ _ h (sym c.class_of.ensures ∙ ap class_number c.in-Hash.is))) _ c.ends_at.ensures).value
+    (ended g.S.Sink.laws v (at-comment g.S.Sink.laws v h (hash_cut _ _ h (sym c.class_of.ensures ∙ ap class_number c.in-Hash.is))) _ c.ends_at-in-Hash.ensures).value
 
 pub returns-in-Hash-clause-taken : goal.returns-in-Hash-clause-taken
 returns-in-Hash-clause-taken g c =
     let h = c.loop-t-test.true in
     let v = c.loop-t.invariant in
-    (ended g.S.Sink.laws v (at-comment g.S.Sink.laws v h (hash_cut _ _ h (sym c.class_of.ensures ∙ ap class_number c.in-Hash.is))) _ c.ends_at.ensures).taken
+    (ended g.S.Sink.laws v (at-comment g.S.Sink.laws v h (hash_cut _ _ h (sym c.class_of.ensures ∙ ap class_number c.in-Hash.is))) _ c.ends_at-in-Hash.ensures).taken
 
 pub returns-clause-value : goal.returns-clause-value
-returns-clause-value g c = let v = c.loop-t.invariant in (ended g.S.Sink.laws v (at-end g.S.Sink.laws v c.loop-t-test.false) _ c.ends_at-2.ensures).value
+returns-clause-value g c = λ e. let v = c.loop-t.invariant in (ended g.S.Sink.laws v (at-end g.S.Sink.laws v c.loop-t-test.false) _ c.ends_at-2.ensures).value
 
 pub returns-clause-taken : goal.returns-clause-taken
 returns-clause-taken g c = let v = c.loop-t.invariant in (ended g.S.Sink.laws v (at-end g.S.Sink.laws v c.loop-t-test.false) _ c.ends_at-2.ensures).taken
@@ -127,7 +128,7 @@ pub loop-t-preserved-in-Ok-Blank : goal.loop-t-preserved-in-Ok-Blank
 loop-t-preserved-in-Ok-Blank g c = past-blank g.S.Sink.laws c.loop-t.invariant c.loop-t-test.true (named_blank _ _ (at_cut _ c.in-Ok-Blank.ensures.result_value c.in-Ok-Blank.field-0-is)) _ c.past_blank-t-in-Ok-Blank.ensures
 
 pub returns-in-Ok-Comment-clause-value : goal.returns-in-Ok-Comment-clause-value
-returns-in-Ok-Comment-clause-value g c =
+returns-in-Ok-Comment-clause-value g c = λ e.
     let v = c.loop-t.invariant in
     (ended g.S.Sink.laws v (at-comment g.S.Sink.laws v c.loop-t-test.true (named-comment _ _ (at_cut _ c.in-Ok-Comment.ensures.result_value c.in-Ok-Comment.field-0-is))) _ c.ends_at-in-Ok-Comment.ensures).value
 
@@ -181,4 +182,8 @@ returns-in-Err g c =
     let v = c.loop-t.invariant in
     let f = failure_of c.in-Err.f in
     let s = stopped g.S.Sink.laws v (moved_by _ f) (at-failure g.S.Sink.laws v h f (named-fails _ _ f (sym c.in-Err.ensures.result_value))) in
-    record { value = ap Err c.moved_by.ensures ∙ s.value; taken = s.taken }
+    record { value = λ e. ap Err c.moved_by.ensures ∙ s.value; taken = s.taken }
+
+pub returns-then-ends_early-clause-taken : goal.returns-then-ends_early-clause-taken
+returns-then-ends_early-clause-taken g c =
+    over g.S.Sink.laws c.loop-t.invariant (λ at xs. g.S.Sink.over_law _ at xs (over-both _ _ (sym c.ends_early.ensures ∙ c.if-ends_early.true)))
