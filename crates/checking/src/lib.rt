@@ -25,6 +25,7 @@ fn both_same(lines: &Held, tokens: &Held) -> bool
 }
 
 // The line at this place, held against the records of a page: where the next one starts; None once a word is another, or where it does not read.
+// `next_line` would read it to its end, and say why it does not read.
 fn next_held<'p>(
     tables: &Tables,
     text: &[u8],

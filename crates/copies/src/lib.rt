@@ -1,5 +1,5 @@
-// Bytes copied from one buffer to another, one at a time: `copy_from_slice` over parts of any length is a call of `memmove`, which the archive for C
-// would ask for from outside.
+// Bytes copied from one buffer to another, one at a time: `copy_from_slice` from one lent buffer to another, over parts of any length, is a call of
+// `memmove`, which the archive for C would ask for from outside.
 #![tactic(auto)]
 
 ghost use Rattle.std.specs.Prelude.{◌≡◌, ◌+◌, ◌-◌, ◌≤◌, length, take, drop};

@@ -2,7 +2,7 @@
 -- Assumes nothing.
 use Prim.Native.Nat.{ℕ, ◌+◌, ◌*◌, ◌≤◌}
 use mathlib.Core.Path.{◌≡◌, refl, sym, ap, ◌∙◌}
-use mathlib.Core.Bool.{Bool, true, false, ◌&&◌, true≢false}
+use mathlib.Core.Bool.{Bool, true, false}
 use mathlib.Core.List.{List, [], ◌∷◌, ◌++◌, append_assoc}
 use native.Mathlib.Omega.{arith}
 use native.Mathlib.Numerals.{add-one}
@@ -30,11 +30,6 @@ pub words_append : (p l : ℕ) (xs ys : List Token) → token_words p l (xs ++ y
 unfolding token_words
 words_append p l [] ys = refl
 words_append p l (x ∷ xs) ys = rw (words_append p l xs ys)
-
--- of two that hold, the other
-pub over-both : (a b : Bool) → (a && b) ≡ true → b ≡ true
-over-both true b e = e
-over-both false b e = absurd (true≢false (sym e))
 
 -- The answers of the cuts.
 

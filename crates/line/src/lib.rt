@@ -45,7 +45,7 @@ fn ends_at(t: Cursor) -> Ends
     }
 }
 
-// Whether to read on is asked for, and of no use.
+// Whether an early end is asked for, and the sink is over.
 fn ends_early<S: Sink, const EARLY: bool>(tokens: &S) -> bool
     ensures { result ≡ (EARLY && S.over tokens.now) }
 {

@@ -56,6 +56,10 @@ next_start t p end h e = go (ltb end (length t)) refl
 pub slice_is : (t : List ℕ) (p end : ℕ) → end ≡ p + run not_lf (drop p t) → take (end - p) (drop p t) ≡ line_at t p
 slice_is t p end e = let n : end - p ≡ run not_lf (drop p t) = omega arith in ap (λ (i : ℕ). take i (drop p t)) n
 
+-- the line at hand, as the part that is lent
+pub lent-line : (lim : LineLimits) (z : State) (t : List ℕ) (p end : ℕ) → end ≡ p + run not_lf (drop p t) → read_line lim z (line_at t p) ≡ read_line lim z (take (end - p) (drop p t))
+lent-line lim z t p end e = ap (read_line lim z) (sym (slice_is t p end e))
+
 -- Reading t from the state z₀ has come to byte p, past m lines es and k tokens, in the state z.
 pub record PassTo (lim : LineLimits) (t : List ℕ) (z₀ : State) (es : List Entry) (p m k : ℕ) (z : State) : Type 0 where
   pub to : ReadTo lim z₀ t p es z

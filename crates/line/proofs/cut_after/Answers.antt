@@ -1,12 +1,13 @@
 -- `line::cut_after` meets its contract.
 use Rattle.std.proofs.Common.{ℕ, ◌≡◌, ◌+◌, ◌≤◌, sym, ◌∙◌, List, length, arith, Ok}
 use Rattle.rules.specs.Line.{cuts_from}
+use Rattle.rules.proofs.ListLaws.{and_right}
 use Rattle.levels.specs.Levels.{leading, Within}
 use Rattle.levels.specs.declared.Lead.{Lead}
 use Rattle.levels.proofs.Leading.{lead_le}
 use Rattle.line.specs.LineCuts.{line_cuts_of}
 use Rattle.line.specs.declared.Ends.{Ends}
-use Rattle.line.proofs.Whole.{line-ends, few-tokens, room-inside, room-end, whole-ends, whole-over, whole-fails, over-both}
+use Rattle.line.proofs.Whole.{line-ends, few-tokens, room-inside, room-end, whole-ends, whole-over, whole-fails}
 use Rattle.line.proofs.cut_after.Goals as goal
 
 -- so few tokens stand at a line's start, and in its cuts
@@ -48,11 +49,11 @@ returns-then-ends_early-clause-taken g c =
     let a = c.args in
     let m = c.put_leading-leading.ensures in
     whole-over g.S.Sink.laws a.lead a.line.now a.place m.value m.taken (cuts_from 0 0 a.line.now) c.cut_line.ensures.taken
-    (λ at xs. g.S.Sink.over_law _ at xs (over-both _ _ (sym c.ends_early.ensures ∙ c.if-ends_early.true)))
+    (λ at xs. g.S.Sink.over_law _ at xs (and_right _ _ (sym c.ends_early.ensures ∙ c.if-ends_early.true)))
 
 pub returns-in_err-end-clause-taken : goal.returns-in_err-end-clause-taken
 returns-in_err-end-clause-taken g c =
     let a = c.args in
     let m = c.put_leading-leading.ensures in
     whole-fails g.S.Sink.laws a.lead a.line.now a.place m.value m.taken _ c.depth.result _ (cuts_from 0 0 a.line.now) c.in_err-end.ensures.value
-    (λ o at xs. g.S.Sink.over_law _ at xs (over-both _ _ o)) c.cut_line.ensures.taken
+    (λ o at xs. g.S.Sink.over_law _ at xs (and_right _ _ o)) c.cut_line.ensures.taken

@@ -6,6 +6,7 @@ use Rattle.rules.specs.Cut.{token, cut, scan_number}
 use Rattle.rules.specs.Cut.{Cut as RulesCut}
 use Rattle.cut.specs.declared.Cut.{Cut}
 use Rattle.rules.specs.Line.{moved_by}
+use Rattle.rules.proofs.ListLaws.{and_right}
 use Rattle.tables.specs.Bytes.{reaches}
 use Rattle.tables.specs.Named.{class_number}
 use Rattle.tables.specs.Signs.{sign_code}
@@ -17,7 +18,6 @@ use Rattle.cut.specs.Cuts.{cut_of, cut_named, kind_asked}
 use Rattle.cut.proofs.Words.{blank_cut, hash_cut, word-token, number-token, sign-token}
 use Rattle.cut.proofs.Plain.{named_blank, named-comment, named-fails}
 use Rattle.line.proofs.Progress.{start, at-end, at-comment, at-failure, past-blank, past-token, may_pass, has_room, goes_on, over, ended, stopped, TokenAt, token-at, failure-at}
-use Rattle.line.proofs.Whole.{over-both}
 use Rattle.line.proofs.cut_line.Goals as goal
 
 -- The tokens that the loop tells by itself: a word, a number, a sign.
@@ -186,4 +186,4 @@ returns-in-Err g c =
 
 pub returns-then-ends_early-clause-taken : goal.returns-then-ends_early-clause-taken
 returns-then-ends_early-clause-taken g c =
-    over g.S.Sink.laws c.loop-t.invariant (λ at xs. g.S.Sink.over_law _ at xs (over-both _ _ (sym c.ends_early.ensures ∙ c.if-ends_early.true)))
+    over g.S.Sink.laws c.loop-t.invariant (λ at xs. g.S.Sink.over_law _ at xs (and_right _ _ (sym c.ends_early.ensures ∙ c.if-ends_early.true)))
