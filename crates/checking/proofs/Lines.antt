@@ -12,10 +12,10 @@ use Rattle.rules.specs.Records.{line_size, token_size, line_need, token_need, li
 use Rattle.rules.proofs.ReadingLaws.{token_sum_append}
 use Rattle.rules.proofs.LoopLaws.{read-end}
 use Rattle.records.specs.Sinks.{Compares}
-use Rattle.records.specs.SinkLaws.{held-laws}
+use Rattle.records.specs.SinkLaws.{held-record-laws}
 use Rattle.records.specs.declared.Place.{Place}
 use Rattle.records.specs.declared.sink.Held.{Held}
-use Rattle.records.proofs.Takes.{takes_as, then-takes}
+use Rattle.records.proofs.RecordTakes.{takes_as, then-takes}
 use Rattle.refusals.specs.declared.Unread.{Unread}
 use Rattle.line.specs.LineCuts.{tokens_in, Taken}
 use Rattle.lines.specs.Steps.{StepIs}
@@ -36,7 +36,7 @@ NextIs lim t p z z' = StepIs z' p.start (p.line + 1) (p.start + size_at t p.star
 
 pub held-start : (lim : LineLimits) (t : List ℕ) (l k : Held) {z : State} → z ≡ initial → HeldTo lim t l k (record { line = 0; first = 0; start = 0 }) z l k
 unfolding line_records token_records
-held-start lim t l k e = rw e (record { es = []; pass = pass-start lim t initial; line-words = held-laws.taken-nothing l 0; token-words = held-laws.taken-nothing k 0 })
+held-start lim t l k e = rw e (record { es = []; pass = pass-start lim t initial; line-words = held-record-laws.taken-nothing l 0; token-words = held-record-laws.taken-nothing k 0 })
 
 module _ {lim : LineLimits} {t : List ℕ} {l₀ k₀ : Held} {p : Place} {z : State} {l k : Held} (v : HeldTo lim t l₀ k₀ p z l k) where
   -- the words of one line more, which may be the end
@@ -46,9 +46,9 @@ module _ {lim : LineLimits} {t : List ℕ} {l₀ k₀ : Held} {p : Place} {z : S
       let n : p.line ≡ 0 + p.line = omega arith in
       let b : 0 + byte_sum v.es ≡ p.start = omega (arith, v.pass.to.bytes) in
       let s : 0 + token_sum v.es ≡ p.first = omega (arith, v.pass.sum) in (
-        then-takes held-laws v.line-words (line_place 0 0 0 v.es e p.line p.start p.first v.pass.count b s) (takes_as held-laws (ap (λ (i : ℕ). line_size * i) n) refl ml)
+        then-takes held-record-laws v.line-words (line_place 0 0 0 v.es e p.line p.start p.first v.pass.count b s) (takes_as held-record-laws (ap (λ (i : ℕ). line_size * i) n) refl ml)
             (line_then 0 0 0 v.es e p.line p.start p.first v.pass.count b s),
-        then-takes held-laws v.token-words (token_place 0 0 0 v.es e p.line p.start p.first v.pass.count b s) (takes_as held-laws refl (ap (λ (i : ℕ). token_words p.start (i + 1) e.tokens) n) mk)
+        then-takes held-record-laws v.token-words (token_place 0 0 0 v.es e p.line p.start p.first v.pass.count b s) (takes_as held-record-laws refl (ap (λ (i : ℕ). token_words p.start (i + 1) e.tokens) n) mk)
             (token_then 0 0 0 v.es e p.line p.start p.first v.pass.count b s),
       )
 

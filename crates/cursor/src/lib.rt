@@ -10,7 +10,7 @@ ghost use Rattle.levels.specs.Levels.{leading};
 ghost use Rattle.cursor.specs.Cursors.{depth_by, cursor_at, blank_past, token_past};
 
 use levels::Lead;
-use records::{Place, Sink};
+use records::{Place, RecordSink};
 use tables::kinds;
 
 // The depth that a token of this kind leaves.
@@ -79,7 +79,7 @@ pub fn behind_token(t: Cursor, kind: u32, size: usize) -> Cursor
 }
 
 // Past a token of this kind and length, whose record goes to the sink.
-pub fn past_token<S: Sink>(
+pub fn past_token<S: RecordSink>(
     tokens: &mut S,
     place: Place,
     t: Cursor,
@@ -96,7 +96,7 @@ pub fn past_token<S: Sink>(
 }
 
 // Past the sign of this code. Most signs have one byte; that length is known without waiting for the code.
-pub fn past_sign<S: Sink>(tokens: &mut S, place: Place, t: Cursor, code: u32) -> Cursor
+pub fn past_sign<S: RecordSink>(tokens: &mut S, place: Place, t: Cursor, code: u32) -> Cursor
     requires code_bound { (place.start + (t.at + (code / 128 + 1)) ≤ 1_048_576) × ((place.line ≤ 4_194_304) × ((t.n ≤ 8_388_608) × (t.depth ≤ 8_388_608))) }
     requires fits { Fits (S.room tokens.old) (Some (token_size * (place.first + t.n) + token_size)) }
     ensures value { result ≡ token_past t (code % 128) (code / 128 + 1) }
@@ -109,7 +109,7 @@ pub fn past_sign<S: Sink>(tokens: &mut S, place: Place, t: Cursor, code: u32) ->
 }
 
 // So many Dedents as the first tokens of the line.
-pub fn put_dedents<S: Sink>(tokens: &mut S, place: Place, count: usize)
+pub fn put_dedents<S: RecordSink>(tokens: &mut S, place: Place, count: usize)
     requires start_bound { (place.start ≤ 1_048_576) × (place.line ≤ 4_194_304) }
     requires fits { Fits (S.room tokens.old) (Some (token_size * (place.first + count))) }
     ensures { S.takes tokens.old tokens.new (token_size * place.first) (token_words place.start (place.line + 1) (dedents count)) }
@@ -120,7 +120,7 @@ pub fn put_dedents<S: Sink>(tokens: &mut S, place: Place, count: usize)
 }
 
 // The Indent or the Dedents at a line's start; how many they are.
-pub fn put_leading<S: Sink>(tokens: &mut S, place: Place, lead: Lead) -> usize
+pub fn put_leading<S: RecordSink>(tokens: &mut S, place: Place, lead: Lead) -> usize
     requires start_bound { (place.start ≤ 1_048_576) × (place.line ≤ 4_194_304) }
     requires fits { Fits (S.room tokens.old) (Some (token_size * (place.first + length (leading lead)))) }
     ensures value { result ≡ length (leading lead) }

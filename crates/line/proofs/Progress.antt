@@ -25,8 +25,8 @@ use Rattle.indent.proofs.Spaces.{spaces_le, cuts-behind}
 use Rattle.cursor.specs.Cursors.{depth_by, cursor_at, blank_past, token_past}
 use Rattle.cursor.specs.declared.Cursor.{Cursor}
 use Rattle.cursor.proofs.Depths.{depth-by-le}
-use Rattle.records.specs.Sinks.{Fits, SinkLaws}
-use Rattle.records.proofs.Takes.{then-takes, fits_after, fits-less, fits-endless}
+use Rattle.records.specs.Sinks.{Fits, RecordSinkLaws}
+use Rattle.records.proofs.RecordTakes.{then-takes, fits_after, fits-less, fits-endless}
 use Rattle.line.specs.LineCuts.{failure_in, line_cuts_of, tokens_of, tokens_end, Taken}
 use Rattle.literals.specs.declared.Failure as code
 use Rattle.line.specs.declared.Ends.{Ends}
@@ -101,7 +101,7 @@ pub record Done {S : Type 0} (takes : S → S → ℕ → List ℕ → Type 0) (
   pub value : r ≡ line_cuts_of d₀ (cuts_from 0 0 l)
   pub taken : Taken (takes tokens₀ tokens) place (tokens_of (cuts_from 0 0 l))
 
-module _ {S : Type 0} {room : S → Option ℕ} {takes : S → S → ℕ → List ℕ → Type 0} {named : Bool} (laws : SinkLaws room takes named) where
+module _ {S : Type 0} {room : S → Option ℕ} {takes : S → S → ℕ → List ℕ → Type 0} {named : Bool} (laws : RecordSinkLaws room takes named) where
   pub start : (l : List ℕ) (d₀ : ℕ) (place : Place) (tokens₀ : S) (spaces : ℕ) → spaces ≡ run is_space l → (t : Cursor) → t ≡ cursor_at spaces d₀ → Progress takes l d₀ place tokens₀ tokens₀ t
   unfolding depth_after arrow_after token_words
   start l d₀ place tokens₀ spaces is t e =

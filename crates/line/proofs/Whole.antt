@@ -14,10 +14,10 @@ use Rattle.rules.specs.Line.{Token, token_at, Cuts, cuts, stops, cuts_from, dept
 use Rattle.rules.specs.Records.{token_size, token_words}
 use Rattle.rules.proofs.RecordLaws.{length_token_words}
 use Rattle.rules.proofs.BoundLaws.{cuts-ok}
-use Rattle.records.specs.Sinks.{Fits, SinkLaws}
+use Rattle.records.specs.Sinks.{Fits, RecordSinkLaws}
 use Rattle.records.specs.Words.{words_at}
 use Rattle.records.specs.declared.Place.{Place}
-use Rattle.records.proofs.Takes.{then-takes, fits_after, fits-less}
+use Rattle.records.proofs.RecordTakes.{then-takes, fits_after, fits-less}
 use Rattle.std.specs.Prelude.{Option, Some, None, Result, Ok, Err}
 use Rattle.literals.specs.declared.Failure as code
 use Rattle.levels.specs.Levels.{leading, with_widths}
@@ -41,7 +41,7 @@ pub few-tokens : (line : List ℕ) (ts : List Token) → cuts_from 0 0 line ≡ 
 few-tokens line ts e = (cuts-ok 0 0 line ts e).0
 
 -- The room and the words of the three parts, one behind the other.
-module _ {S : Type 0} {room : S → Option ℕ} {takes : S → S → ℕ → List ℕ → Type 0} {named : Bool} (laws : SinkLaws room takes named) (lead : Lead) (line : List ℕ) (place : Place) where
+module _ {S : Type 0} {room : S → Option ℕ} {takes : S → S → ℕ → List ℕ → Type 0} {named : Bool} (laws : RecordSinkLaws room takes named) (lead : Lead) (line : List ℕ) (place : Place) where
   abbrev all : Cuts → Option (List Token)
   all x = tokens_of (whole_line lead line x)
 

@@ -14,7 +14,7 @@ use cursor::Cursor;
 use cut::Cut;
 use levels::{Lead, Misfit};
 use literals::{Failure, detail};
-use records::{Place, Sink, State};
+use records::{Place, RecordSink, State};
 use refusals::LineLimits;
 use tables::{Class, Run, Tables, kinds};
 
@@ -46,7 +46,7 @@ fn ends_at(t: Cursor) -> Ends
 }
 
 // Whether an early end is asked for, and the sink is over.
-fn ends_early<S: Sink, const EARLY: bool>(tokens: &S) -> bool
+fn ends_early<S: RecordSink, const EARLY: bool>(tokens: &S) -> bool
     ensures { result ≡ (EARLY && S.over tokens.now) }
 {
     EARLY && tokens.is_over()
@@ -55,7 +55,7 @@ fn ends_early<S: Sink, const EARLY: bool>(tokens: &S) -> bool
 // The tokens of a line that begins with so many spaces. Words, numbers, signs and `#` are told in the loop itself, the others are called
 // for. A sink that keeps no records asks for no kinds of words. A turn passes what it cuts, so no range gives the offsets. Where EARLY is asked for
 // the cutting ends once the sink is over, with an answer that says nothing; what the sink took holds then too.
-fn cut_line<S: Sink, const EARLY: bool>(
+fn cut_line<S: RecordSink, const EARLY: bool>(
     tables: &Tables,
     line: &[u8],
     spaces: usize,
@@ -69,7 +69,7 @@ fn cut_line<S: Sink, const EARLY: bool>(
     ensures value { (EARLY && S.over tokens.new) ≡ false → result ≡ line_cuts_of depth (cuts_from 0 0 line.now) }
     ensures taken { Taken (S.takes tokens.old tokens.new) place (tokens_of (cuts_from 0 0 line.now)) }
 {
-    let named = tokens.is_named();
+    let named = tokens.asks_kinds();
     let mut t = cursor::cursor_at(spaces, depth);
     while t.at < line.len() {
         if ends_early::<S, EARLY>(tokens) {
@@ -133,7 +133,7 @@ impl From<Failure> for Halt {
 }
 
 // A line whose levels are known: what stands at its start, its cuts, and the Newline; the number of its tokens.
-fn cut_after<S: Sink, const EARLY: bool>(
+fn cut_after<S: RecordSink, const EARLY: bool>(
     tables: &Tables,
     line: &[u8],
     spaces: usize,
@@ -165,7 +165,7 @@ fn cut_after<S: Sink, const EARLY: bool>(
 }
 
 // One line from the state before it, to its end, or where EARLY is asked for up to where the sink is over.
-fn read_tokens<S: Sink, const EARLY: bool>(
+fn read_tokens<S: RecordSink, const EARLY: bool>(
     tables: &Tables,
     line: &[u8],
     tokens: &mut S,
@@ -193,7 +193,7 @@ fn read_tokens<S: Sink, const EARLY: bool>(
 }
 
 // One line from the state before it: the number of its tokens, and the state after it.
-pub fn read_line<S: Sink>(
+pub fn read_line<S: RecordSink>(
     tables: &Tables,
     line: &[u8],
     tokens: &mut S,
@@ -211,7 +211,7 @@ pub fn read_line<S: Sink>(
 }
 
 // The same, but that it ends once the sink is over. The answer and the state left say nothing then; what the sink took holds.
-pub fn read_line_until_over<S: Sink>(
+pub fn read_line_until_over<S: RecordSink>(
     tables: &Tables,
     line: &[u8],
     tokens: &mut S,

@@ -16,7 +16,7 @@ ghost use Rattle.lines.specs.Steps.{StepIs};
 
 use line::Halt;
 use literals::Failure;
-use records::{Place, Sink, State};
+use records::{Place, RecordSink, State};
 use refusals::{FailureRecord, LineLimits, Unread};
 use tables::Tables;
 
@@ -78,7 +78,7 @@ pub struct Next {
 }
 
 // The line at `at` of a text, with its place in the whole: its record, its tokens, and the state after it.
-pub fn next_line<S: Sink>(
+pub fn next_line<S: RecordSink>(
     tables: &Tables,
     text: &[u8],
     at: usize,
@@ -110,7 +110,7 @@ pub fn next_line<S: Sink>(
 }
 
 // The end of a text, at this place: its record and its Dedents.
-pub fn put_end<S: Sink>(lines: &mut S, tokens: &mut S, end: Place, state: &State)
+pub fn put_end<S: RecordSink>(lines: &mut S, tokens: &mut S, end: Place, state: &State)
     requires end_bound { (end.start ≤ 1_048_576) × ((end.line ≤ 4_194_304) × (end.first ≤ 4_194_304)) }
     requires line_room { Fits (S.room lines.old) (Some (line_size * end.line + line_size)) }
     requires token_room { Fits (S.room tokens.old) (Some (token_size * (end.first + length state.now.widths))) }

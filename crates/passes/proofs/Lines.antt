@@ -11,9 +11,9 @@ use Rattle.rules.proofs.LineLaws.{total-lines}
 use Rattle.rules.proofs.ReadingLaws.{read-sizes, token_sum_append}
 use Rattle.rules.proofs.LoopLaws.{ReadTo}
 use Rattle.rules.proofs.BoundLaws.{SmallAt, read_small}
-use Rattle.records.specs.Sinks.{Fits, SinkLaws}
+use Rattle.records.specs.Sinks.{Fits, RecordSinkLaws}
 use Rattle.records.specs.declared.Place.{Place}
-use Rattle.records.proofs.Takes.{takes_as, then-takes, fits_after, fits-less}
+use Rattle.records.proofs.RecordTakes.{takes_as, then-takes, fits_after, fits-less}
 use Rattle.records.specs.declared.Counts.{Counts}
 use Rattle.refusals.specs.declared.Unread.{Unread}
 use Rattle.rereading.specs.Rereads.{HaltsIn}
@@ -83,7 +83,7 @@ module _ (lim : LineLimits) (fit : lim.levels ≤ max_levels) (t : List ℕ) (sh
     tokens-are : 0 + token_sum v.0 ≡ c.tokens
     tokens-are = omega (arith, v.2.tokens)
 
-  module _ {S : Type 0} {room : S → Option ℕ} {takes : S → S → ℕ → List ℕ → Type 0} {named : Bool} (laws : SinkLaws room takes named) (l₀ t₀ : S) where
+  module _ {S : Type 0} {room : S → Option ℕ} {takes : S → S → ℕ → List ℕ → Type 0} {named : Bool} (laws : RecordSinkLaws room takes named) (l₀ t₀ : S) where
     pub line_room_first : Fits (room l₀) (line_need_of (whole lim t)) → Fits (room l₀) (line_records_end start (reading lim t z₀))
     line_room_first f = rw first (go (whole lim t) f)
       where

@@ -11,12 +11,12 @@ ghost use Rattle.refusals.specs.Limits.{line_limits_of, limits_of};
 ghost use Rattle.passes.specs.Passes.{pass_of, line_need_of, token_need_of, TakenIn};
 
 pub use records::Counts;
-use records::{Nowhere, Place, Sink, State};
+use records::{Nowhere, Place, RecordSink, State};
 use refusals::{Limits, LineLimits, Unread};
 use tables::Tables;
 
 // One pass over the lines of a text, whose records go to two sinks.
-pub fn pass_lines<S: Sink>(
+pub fn pass_lines<S: RecordSink>(
     tables: &Tables,
     text: &[u8],
     lines: &mut S,

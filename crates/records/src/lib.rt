@@ -11,7 +11,7 @@ ghost use Rattle.records.specs.Words.{words_at, line_word, state_in, state_from}
 pub mod sink;
 pub mod state;
 
-pub use sink::{Held, Nowhere, Sink, Written};
+pub use sink::{Bounded, Held, Nowhere, RecordSink, Sink, Written};
 pub use state::{LEVELS, STATE, State};
 
 // The words of a line record: start, first token, depth, arrow, open levels, then the widths.
@@ -37,7 +37,14 @@ pub struct Counts {
 }
 
 // The line's token n, at this offset of the line: kind, position, length, line, column.
-pub fn put_token<S: Sink>(tokens: &mut S, place: Place, n: usize, kind: u32, offset: u32, size: u32)
+pub fn put_token<S: RecordSink>(
+    tokens: &mut S,
+    place: Place,
+    n: usize,
+    kind: u32,
+    offset: u32,
+    size: u32,
+)
     requires offset_bound { (place.start + offset ≤ 1_048_576) × (place.line ≤ 4_194_304) }
     requires fits { Fits (S.room tokens.old) (Some (token_size * (place.first + n) + token_size)) }
     ensures { S.takes tokens.old tokens.new (token_size * (place.first + n)) (words_at place offset kind size) }
@@ -45,7 +52,7 @@ pub fn put_token<S: Sink>(tokens: &mut S, place: Place, n: usize, kind: u32, off
     let position = place.start + offset;
     let number = place.line as u32 + 1;
     let column = offset + 1;
-    tokens.put(place.first, n, &[kind, position, size, number, column]);
+    tokens.put_record(place.first, n, &[kind, position, size, number, column]);
 }
 
 // The words from an index on begin with these.
@@ -71,12 +78,12 @@ fn line_words(place: Place, state: &State) -> [u32; LINE]
 }
 
 // The line's record.
-pub fn put_line<S: Sink>(lines: &mut S, place: Place, state: &State)
+pub fn put_line<S: RecordSink>(lines: &mut S, place: Place, state: &State)
     requires first_bound { place.first ≤ 4_194_304 }
     requires fits { Fits (S.room lines.old) (Some (line_size * place.line + line_size)) }
     ensures { S.takes lines.old lines.new (line_size * place.line) (line_record place.start place.first state.now) }
 {
-    lines.put(place.line, 0, &line_words(place, state));
+    lines.put_record(place.line, 0, &line_words(place, state));
 }
 
 // The state in line record i.

@@ -1,9 +1,15 @@
 // What becomes of the words of the records that a pass over lines gives.
 ghost use Rattle.std.specs.Prelude.{◌≡◌, true, ℕ, Bool, List, ◌+◌, ◌*◌, ◌≤◌, length, Option, Some};
-ghost use Rattle.records.specs.Sinks.{Fits, SinkLaws, OverLaw};
+ghost use Rattle.records.specs.Sinks.{Fits, RecordSinkLaws, OverLaw};
 
-// Where the words of records go.
-pub trait Sink {
+pub mod bounded;
+pub mod words;
+
+pub use bounded::Bounded;
+pub use words::Sink;
+
+// Where records go, by their numbers.
+pub trait RecordSink {
     // which kind a word has is asked for
     ghost named: { Bool };
 
@@ -13,7 +19,7 @@ pub trait Sink {
     // the sink before and after, and the words that it takes from an index on
     ghost takes: { Self → Self → ℕ → List ℕ → Type 0 };
 
-    ghost laws: { SinkLaws room takes named };
+    ghost laws: { RecordSinkLaws room takes named };
 
     // nothing that it takes changes it any more
     ghost over: { Self → Bool };
@@ -21,13 +27,13 @@ pub trait Sink {
     ghost over_law: { OverLaw over takes };
 
     // The words of the record that is n records behind this one.
-    fn put(&mut self, first: usize, n: usize, words: &[u32])
+    fn put_record(&mut self, first: usize, n: usize, words: &[u32])
         requires some { 1 ≤ length words.now }
         requires fits { Fits (room self.old) (Some (length words.now * (first + n) + length words.now)) }
         ensures { takes self.old self.new (length words.now * (first + n)) words.now };
 
     // Whether the kinds of words are asked for.
-    fn is_named(&self) -> bool
+    fn asks_kinds(&self) -> bool
         ensures { result ≡ named };
 
     // Whether nothing that it takes changes it any more.
@@ -39,10 +45,10 @@ pub trait Sink {
 #[derive(Clone, Copy)]
 pub struct Nowhere;
 
-impl Sink for Nowhere {
+impl RecordSink for Nowhere {
     ghost use Rattle.std.specs.Prelude.{false, None};
     ghost use Rattle.records.specs.Sinks.{NowhereTakes};
-    ghost use Rattle.records.specs.SinkLaws.{nowhere-laws, never-over};
+    ghost use Rattle.records.specs.SinkLaws.{nowhere-record-laws, never-over};
 
     ghost named = { false };
 
@@ -50,15 +56,15 @@ impl Sink for Nowhere {
 
     ghost takes = { NowhereTakes };
 
-    ghost laws = { nowhere-laws };
+    ghost laws = { nowhere-record-laws };
 
     ghost over = { λ s. false };
 
     ghost over_law = { never-over NowhereTakes };
 
-    fn put(&mut self, _first: usize, _n: usize, _words: &[u32]) {}
+    fn put_record(&mut self, _first: usize, _n: usize, _words: &[u32]) {}
 
-    fn is_named(&self) -> bool {
+    fn asks_kinds(&self) -> bool {
         false
     }
 
@@ -82,10 +88,10 @@ impl<'a> Written<'a> {
     }
 }
 
-impl Sink for Written<'_> {
+impl RecordSink for Written<'_> {
     ghost use Rattle.std.specs.Prelude.{true, false, Some, length};
     ghost use Rattle.records.specs.Sinks.{Writes};
-    ghost use Rattle.records.specs.SinkLaws.{written-laws, never-over};
+    ghost use Rattle.records.specs.SinkLaws.{written-record-laws, never-over};
 
     ghost named = { true };
 
@@ -93,18 +99,18 @@ impl Sink for Written<'_> {
 
     ghost takes = { Writes };
 
-    ghost laws = { written-laws };
+    ghost laws = { written-record-laws };
 
     ghost over = { λ s. false };
 
     ghost over_law = { never-over Writes };
 
-    fn put(&mut self, first: usize, n: usize, words: &[u32]) {
+    fn put_record(&mut self, first: usize, n: usize, words: &[u32]) {
         let at = words.len() * (first + n);
         self.words[at..at + words.len()].copy_from_slice(words);
     }
 
-    fn is_named(&self) -> bool {
+    fn asks_kinds(&self) -> bool {
         true
     }
 
@@ -135,10 +141,10 @@ impl<'a> Held<'a> {
     }
 }
 
-impl Sink for Held<'_> {
+impl RecordSink for Held<'_> {
     ghost use Rattle.std.specs.Prelude.{true, not, None};
     ghost use Rattle.records.specs.Sinks.{Compares};
-    ghost use Rattle.records.specs.SinkLaws.{held-laws, held-over};
+    ghost use Rattle.records.specs.SinkLaws.{held-record-laws, held-over};
 
     ghost named = { true };
 
@@ -146,19 +152,19 @@ impl Sink for Held<'_> {
 
     ghost takes = { Compares };
 
-    ghost laws = { held-laws };
+    ghost laws = { held-record-laws };
 
     ghost over = { λ s. not s.same };
 
     ghost over_law = { held-over };
 
     // An index that is no number is beyond the buffer.
-    fn put(&mut self, first: usize, n: usize, words: &[u32]) {
+    fn put_record(&mut self, first: usize, n: usize, words: &[u32]) {
         let at = words.len().saturating_mul(first.saturating_add(n));
         self.same = self.same && super::same_words(self.words, at, words);
     }
 
-    fn is_named(&self) -> bool {
+    fn asks_kinds(&self) -> bool {
         true
     }
 

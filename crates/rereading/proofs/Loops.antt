@@ -6,10 +6,10 @@ use Rattle.rules.specs.Limits.{max_levels, LineLimits}
 use Rattle.rules.specs.Reading.{Entry, entry, lines_of, read_from, byte_sum, token_sum, line_at, size_at}
 use Rattle.rules.specs.Records.{line_size, token_size, line_record, line_records, token_records}
 use Rattle.rules.proofs.LoopLaws.{read-end}
-use Rattle.records.specs.Sinks.{Fits, SinkLaws}
+use Rattle.records.specs.Sinks.{Fits, RecordSinkLaws}
 use Rattle.records.specs.declared.Counts.{Counts}
 use Rattle.records.specs.declared.Place.{Place}
-use Rattle.records.proofs.Takes.{then-takes}
+use Rattle.records.proofs.RecordTakes.{then-takes}
 use Rattle.refusals.specs.declared.Unread.{Unread}
 use Rattle.line.specs.LineCuts.{tokens_in, tokens_end, state_left, Taken}
 use Rattle.lines.specs.Steps.{StepIs}
@@ -46,7 +46,7 @@ pub record Loop (lim : LineLimits) (text old : List ℕ) (stop : StopRule) (plac
 module _ {lim : LineLimits} {text old : List ℕ} {stop : StopRule} {place : Place} {z₀ : State} {S : Type 0} {takes : S → S → ℕ → List ℕ → Type 0} {lines₀ tokens₀ : S}
     (text_bound : (place.start + length text ≤ 1_048_576) × ((place.line ≤ place.start) × ((stop.from ≤ stop.count) × (stop.end ≤ 4_294_967_295))))
     (state_bound : (z₀.depth ≤ place.start) × (length z₀.widths ≤ max_levels)) where
-  pub begun : {room : S → Option ℕ} {named : Bool} → SinkLaws room takes named
+  pub begun : {room : S → Option ℕ} {named : Bool} → RecordSinkLaws room takes named
       → Loop lim text old stop place z₀ takes lines₀ tokens₀ (record { bytes = 0; lines = 0; tokens = 0 }) stop.from z₀ lines₀ tokens₀
   unfolding line_records token_records
   begun laws =
@@ -71,11 +71,11 @@ module _ {lim : LineLimits} {text old : List ℕ} {stop : StopRule} {place : Pla
       pub next-few : Few (read_from lim z₀ (lines_of text)) place.first → place.first + c.tokens ≤ 3_000_000
       next-few f = few-next l.come.pass h place.first f far.3
 
-      pub line_room : {room : S → Option ℕ} {named : Bool} → SinkLaws room takes named → Fits (room lines₀) (line_records_end place (read_from lim z₀ (lines_of text)))
+      pub line_room : {room : S → Option ℕ} {named : Bool} → RecordSinkLaws room takes named → Fits (room lines₀) (line_records_end place (read_from lim z₀ (lines_of text)))
           → Fits (room lines) (Some (line_size * (place.line + c.lines) + line_size))
       line_room laws = line-room-next l.come.pass h laws place l.line-words
 
-      pub token_room : {room : S → Option ℕ} {named : Bool} → SinkLaws room takes named → Fits (room tokens₀) (token_records_end place (read_from lim z₀ (lines_of text)))
+      pub token_room : {room : S → Option ℕ} {named : Bool} → RecordSinkLaws room takes named → Fits (room tokens₀) (token_records_end place (read_from lim z₀ (lines_of text)))
           → Fits (room tokens) (tokens_end (place-after place c) (tokens_in (read_line lim z (line_at text c.bytes))))
       token_room laws = token-room-next l.come.pass h laws place l.token-words
 
@@ -94,7 +94,7 @@ module _ {lim : LineLimits} {text old : List ℕ} {stop : StopRule} {place : Pla
           pub stops : {b : Bool} → b ≡ stops_at old r stop.end stop.kept (place.start + c.bytes) z → b ≡ true → Answers lim text old stop place z₀ z (Ok (Stop c r))
           stops a e = stopped l.come few h r hr hm (sym a ∙ e)
 
-          pub goes_on : {room : S → Option ℕ} {named : Bool} → SinkLaws room takes named → {b : Bool} → b ≡ stops_at old r stop.end stop.kept (place.start + c.bytes) z → b ≡ false → {z' : State} (n : Next) → NextIs lim text old stop place z₀ c z z' (Ok n)
+          pub goes_on : {room : S → Option ℕ} {named : Bool} → RecordSinkLaws room takes named → {b : Bool} → b ≡ stops_at old r stop.end stop.kept (place.start + c.bytes) z → b ≡ false → {z' : State} (n : Next) → NextIs lim text old stop place z₀ c z z' (Ok n)
               → {lines' tokens' : S} → takes lines lines' (line_size * (place.line + c.lines)) (line_record (place.start + c.bytes) (place.first + c.tokens) z)
               → Taken (takes tokens tokens') (place-after place c) (tokens_in (read_line lim z (line_at text c.bytes)))
               → Loop lim text old stop place z₀ takes lines₀ tokens₀ (record { bytes = n.at; lines = c.lines + 1; tokens = c.tokens + n.tokens }) r z' lines' tokens'

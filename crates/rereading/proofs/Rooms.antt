@@ -15,9 +15,9 @@ use Rattle.rules.specs.Records.{line_size, token_size, line_record, line_records
 use Rattle.rules.proofs.ReadingLaws.{with_entries, with_entries-reads, with_entries-halts, token_sum_append}
 use Rattle.rules.proofs.RecordLaws.{line_records_append, length_line_records, token_records_append, length_token_records}
 use Rattle.rules.proofs.LoopLaws.{ReadTo, read-line, read-stuck, read-rest}
-use Rattle.records.specs.Sinks.{Fits, SinkLaws}
+use Rattle.records.specs.Sinks.{Fits, RecordSinkLaws}
 use Rattle.records.specs.declared.Place.{Place}
-use Rattle.records.proofs.Takes.{fits_after, fits-less, fits-endless}
+use Rattle.records.proofs.RecordTakes.{fits_after, fits-less, fits-endless}
 use Rattle.line.specs.LineCuts.{tokens_end, tokens_in}
 use Rattle.lines.proofs.Lines.{PassTo}
 use Rattle.rereading.specs.Sinks.{line_records_end, token_records_end, Few}
@@ -89,7 +89,7 @@ module _ {lim : LineLimits} {t : List ℕ} {z₀ z : State} {es : List Entry} {q
   few-next = next-few (read_from lim z₀ (lines_of t)) refl
 
   -- the room that the next line finds
-  module _ {S : Type 0} {room : S → Option ℕ} {takes : S → S → ℕ → List ℕ → Type 0} {named : Bool} (laws : SinkLaws room takes named) (p : Place) {before after : S} {i : ℕ} {xs : List ℕ}
+  module _ {S : Type 0} {room : S → Option ℕ} {takes : S → S → ℕ → List ℕ → Type 0} {named : Bool} (laws : RecordSinkLaws room takes named) (p : Place) {before after : S} {i : ℕ} {xs : List ℕ}
       (m : takes before after i xs) where
     line-room : (x : Reading) → read_from lim z₀ (lines_of t) ≡ x → Fits (room before) (line_records_end p x) → Fits (room before) (Some (line_size * (p.line + c) + line_size))
     line-room (reads all end) e f = fits-less _ (omega (arith, (next_of all end e).3)) f

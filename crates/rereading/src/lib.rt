@@ -11,7 +11,7 @@ ghost use Rattle.rereading.specs.Words.{old_byte, FirstFrom, stops_at};
 ghost use Rattle.rereading.specs.Rereads.{RereadIs};
 ghost use Rattle.rereading.specs.Sinks.{line_records_end, token_records_end, Few, AllTaken, AtEnd, EndIs};
 
-use records::{Counts, Place, Sink, State};
+use records::{Counts, Place, RecordSink, State};
 use refusals::{LineLimits, Unread};
 use tables::Tables;
 
@@ -84,7 +84,7 @@ pub enum Reached {
 
 // The lines of a text whose first line has this place in the whole, read from a state on, up to the stop rule against old line records. A turn
 // passes a line, whose length no range gives.
-pub fn read_on<S: Sink>(
+pub fn read_on<S: RecordSink>(
     tables: &Tables,
     text: &[u8],
     old: &[u32],
@@ -132,7 +132,7 @@ pub fn read_on<S: Sink>(
 }
 
 // All lines of a text whose first line has this place in the whole: no old records are compared with, so there is no stop.
-pub fn read_to_end<S: Sink>(
+pub fn read_to_end<S: RecordSink>(
     tables: &Tables,
     text: &[u8],
     lines: &mut S,

@@ -12,12 +12,12 @@ use Rattle.rules.proofs.LineLaws.{total, next}
 use Rattle.rules.proofs.ReadingLaws.{read-sizes}
 use Rattle.rules.proofs.RecordLaws.{length_line_records, length_token_records}
 use Rattle.records.specs.Sinks.{Fits, Writes}
-use Rattle.records.specs.SinkLaws.{written-laws}
+use Rattle.records.specs.SinkLaws.{written-record-laws}
 use Rattle.records.specs.declared.sink.Written.{Written}
 use Rattle.records.specs.Words.{state_from}
 use Rattle.records.specs.declared.Counts.{Counts}
 use Rattle.records.specs.declared.Place.{Place}
-use Rattle.records.proofs.Takes.{then-takes, fits_after}
+use Rattle.records.proofs.RecordTakes.{then-takes, fits_after}
 use Rattle.refusals.specs.Limits.{line_of, limits_of}
 use Rattle.refusals.specs.declared.Limits.{Limits}
 use Rattle.refusals.specs.declared.Unread.{Unread}
@@ -110,8 +110,8 @@ module _ (u : List ℕ) (z : State) {p : Plan} (r : ReadsAs p (reread u z p)) wh
         module _ (yes : some ≡ true) (left : State) (a : Result Counts Unread) (ends : EndIs lim part z p.begin.bytes p.begin.lines left a) where
           pub end-room : (line_size * at.lines + line_size ≤ length l₁.words.now) × (token_size * (at.tokens + length left.widths) ≤ length t₁.words.now)
           end-room = (
-            fits_after written-laws (Some (line_size * at.lines + line_size)) taken.0 (omega (arith, ap bit (sym end_is ∙ yes), room.0)),
-            fits_after written-laws (Some (token_size * (at.tokens + length left.widths))) taken.1
+            fits_after written-record-laws (Some (line_size * at.lines + line_size)) taken.0 (omega (arith, ap bit (sym end_is ∙ yes), room.0)),
+            fits_after written-record-laws (Some (token_size * (at.tokens + length left.widths))) taken.1
                 (omega (arith, levels_are p R r (sym end_is ∙ yes), ap (λ (w : State). length w.widths) (reached a ends), room.1)),
           )
 
@@ -122,9 +122,9 @@ module _ (u : List ℕ) (z : State) {p : Plan} (r : ReadsAs p (reread u z p)) wh
               let b : p.begin.bytes + byte_sum r.entries ≡ at.bytes = omega (arith, r.bytes) in
               let k : p.begin.tokens + token_sum r.entries ≡ at.tokens = omega (arith, r.tokens) in
               rw (r.reads-are, sym end_is ∙ yes) (
-                then-takes written-laws taken.0 (line_place p.begin.bytes p.begin.lines p.begin.tokens r.entries (end_entry r.last) p.read.lines at.bytes at.tokens r.lines b k) (rw (reached a ends) at ml)
+                then-takes written-record-laws taken.0 (line_place p.begin.bytes p.begin.lines p.begin.tokens r.entries (end_entry r.last) p.read.lines at.bytes at.tokens r.lines b k) (rw (reached a ends) at ml)
                     (line_then p.begin.bytes p.begin.lines p.begin.tokens r.entries (end_entry r.last) p.read.lines at.bytes at.tokens r.lines b k),
-                then-takes written-laws taken.1 (token_place p.begin.bytes p.begin.lines p.begin.tokens r.entries (end_entry r.last) p.read.lines at.bytes at.tokens r.lines b k) (rw (reached a ends) at mt)
+                then-takes written-record-laws taken.1 (token_place p.begin.bytes p.begin.lines p.begin.tokens r.entries (end_entry r.last) p.read.lines at.bytes at.tokens r.lines b k) (rw (reached a ends) at mt)
                     (token_then p.begin.bytes p.begin.lines p.begin.tokens r.entries (end_entry r.last) p.read.lines at.bytes at.tokens r.lines b k),
               )
 

@@ -28,32 +28,32 @@ pub cut_line-requires-clause-room : goal.cut_line-requires-clause-room
 cut_line-requires-clause-room g c =
     let a = c.args in
     let m = c.put_leading-leading.ensures in
-    room-inside g.S.Sink.laws a.lead a.line.now a.place m.value m.taken (cuts_from 0 0 a.line.now) c.requires.room
+    room-inside g.S.RecordSink.laws a.lead a.line.now a.place m.value m.taken (cuts_from 0 0 a.line.now) c.requires.room
 
 pub put_token-requires-clause-fits : goal.put_token-requires-clause-fits
 put_token-requires-clause-fits g c =
     let a = c.args in
     let m = c.put_leading-leading.ensures in
     let t = line-ends c.depth.result (cuts_from 0 0 a.line.now) c.in_ok-end.end (c.in_ok-end.ensures.value (sym c.ends_early.ensures ∙ c.if-ends_early.false)) in
-    room-end g.S.Sink.laws a.lead a.line.now a.place m.value m.taken t.0 t.2 _ (cuts_from 0 0 a.line.now) t.1 c.requires.room c.cut_line.ensures.taken
+    room-end g.S.RecordSink.laws a.lead a.line.now a.place m.value m.taken t.0 t.2 _ (cuts_from 0 0 a.line.now) t.1 c.requires.room c.cut_line.ensures.taken
 
 pub returns-clause-taken : goal.returns-clause-taken
 returns-clause-taken g c =
     let a = c.args in
     let m = c.put_leading-leading.ensures in
     let t = line-ends c.depth.result (cuts_from 0 0 a.line.now) c.in_ok-end.end (c.in_ok-end.ensures.value (sym c.ends_early.ensures ∙ c.if-ends_early.false)) in
-    whole-ends g.S.Sink.laws a.lead a.line.now a.place m.value m.taken t.0 t.2 (cuts_from 0 0 a.line.now) t.1 c.cut_line.ensures.taken c.put_token.ensures
+    whole-ends g.S.RecordSink.laws a.lead a.line.now a.place m.value m.taken t.0 t.2 (cuts_from 0 0 a.line.now) t.1 c.cut_line.ensures.taken c.put_token.ensures
 
 pub returns-then-ends_early-clause-taken : goal.returns-then-ends_early-clause-taken
 returns-then-ends_early-clause-taken g c =
     let a = c.args in
     let m = c.put_leading-leading.ensures in
-    whole-over g.S.Sink.laws a.lead a.line.now a.place m.value m.taken (cuts_from 0 0 a.line.now) c.cut_line.ensures.taken
-    (λ at xs. g.S.Sink.over_law _ at xs (and_right _ _ (sym c.ends_early.ensures ∙ c.if-ends_early.true)))
+    whole-over g.S.RecordSink.laws a.lead a.line.now a.place m.value m.taken (cuts_from 0 0 a.line.now) c.cut_line.ensures.taken
+    (λ at xs. g.S.RecordSink.over_law _ at xs (and_right _ _ (sym c.ends_early.ensures ∙ c.if-ends_early.true)))
 
 pub returns-in_err-end-clause-taken : goal.returns-in_err-end-clause-taken
 returns-in_err-end-clause-taken g c =
     let a = c.args in
     let m = c.put_leading-leading.ensures in
-    whole-fails g.S.Sink.laws a.lead a.line.now a.place m.value m.taken _ c.depth.result _ (cuts_from 0 0 a.line.now) c.in_err-end.ensures.value
-    (λ o at xs. g.S.Sink.over_law _ at xs (and_right _ _ o)) c.cut_line.ensures.taken
+    whole-fails g.S.RecordSink.laws a.lead a.line.now a.place m.value m.taken _ c.depth.result _ (cuts_from 0 0 a.line.now) c.in_err-end.ensures.value
+    (λ o at xs. g.S.RecordSink.over_law _ at xs (and_right _ _ o)) c.cut_line.ensures.taken

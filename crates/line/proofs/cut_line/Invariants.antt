@@ -4,7 +4,7 @@ use Rattle.line.proofs.Progress.{Progress}
 use Rattle.line.proofs.cut_line.Given as goal
 
 abbrev pub invariant-loop-t : goal.invariant-loop-t
-invariant-loop-t g l = Progress g.S.Sink.takes l.line l.depth l.place l.initial.tokens l.tokens l.t
+invariant-loop-t g l = Progress g.S.RecordSink.takes l.line l.depth l.place l.initial.tokens l.tokens l.t
 
 abbrev pub decreases-loop-t : goal.decreases-loop-t
 decreases-loop-t g l = length l.line - l.t.at

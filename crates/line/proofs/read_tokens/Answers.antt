@@ -18,7 +18,7 @@ depth_kept (beyond number) s z e = ap (λ (y : State). y.depth) e
 pub cut_after-requires-clause-room : goal.cut_after-requires-clause-room
 cut_after-requires-clause-room g c =
     let e = c.in-Ok.ensures in
-    subst (λ (ts : Option (List Token)). Fits (g.S.Sink.room c.args.tokens.now) (tokens_end c.args.place ts)) (sym (line-tokens _ c.args.state.now c.args.line.now c.in-Ok.lead c.levels_of.new.state (sym e.value) (depth_kept _ _ _ e.after))) c.requires.room
+    subst (λ (ts : Option (List Token)). Fits (g.S.RecordSink.room c.args.tokens.now) (tokens_end c.args.place ts)) (sym (line-tokens _ c.args.state.now c.args.line.now c.in-Ok.lead c.levels_of.new.state (sym e.value) (depth_kept _ _ _ e.after))) c.requires.room
 
 pub returns-in_ok-cut_after-in-Ok-clause-value : goal.returns-in_ok-cut_after-in-Ok-clause-value
 returns-in_ok-cut_after-in-Ok-clause-value g c = λ o.
@@ -28,7 +28,7 @@ returns-in_ok-cut_after-in-Ok-clause-value g c = λ o.
 pub returns-in_ok-cut_after-in-Ok-clause-taken : goal.returns-in_ok-cut_after-in-Ok-clause-taken
 returns-in_ok-cut_after-in-Ok-clause-taken g c =
     let e = c.in-Ok.ensures in
-    subst (Taken (g.S.Sink.takes c.args.tokens.now c.cut_after.new.tokens) c.args.place) (line-tokens _ c.args.state.now c.args.line.now c.in-Ok.lead c.levels_of.new.state (sym e.value) (depth_kept _ _ _ e.after)) c.cut_after.ensures.taken
+    subst (Taken (g.S.RecordSink.takes c.args.tokens.now c.cut_after.new.tokens) c.args.place) (line-tokens _ c.args.state.now c.args.line.now c.in-Ok.lead c.levels_of.new.state (sym e.value) (depth_kept _ _ _ e.after)) c.cut_after.ensures.taken
 
 pub returns-in_err-cut_after-in-Ok-clause-value : goal.returns-in_err-cut_after-in-Ok-clause-value
 returns-in_err-cut_after-in-Ok-clause-value g c = λ o.
@@ -39,7 +39,7 @@ returns-in_err-cut_after-in-Ok-clause-value g c = λ o.
 pub returns-in_err-cut_after-in-Ok-clause-taken : goal.returns-in_err-cut_after-in-Ok-clause-taken
 returns-in_err-cut_after-in-Ok-clause-taken g c =
     let e = c.in-Ok.ensures in
-    subst (Taken (g.S.Sink.takes c.args.tokens.now c.cut_after.new.tokens) c.args.place) (line-tokens _ c.args.state.now c.args.line.now c.in-Ok.lead c.levels_of.new.state (sym e.value) (depth_kept _ _ _ e.after)) c.cut_after.ensures.taken
+    subst (Taken (g.S.RecordSink.takes c.args.tokens.now c.cut_after.new.tokens) c.args.place) (line-tokens _ c.args.state.now c.args.line.now c.in-Ok.lead c.levels_of.new.state (sym e.value) (depth_kept _ _ _ e.after)) c.cut_after.ensures.taken
 
 -- a width that does not fit, by what the levels answer
 misfit : {x : Levels} (m n : Misfit) (s : State) → compared_of (Err m) s ≡ x → m ≡ n → x ≡ compared_of (Err n) s

@@ -1,7 +1,7 @@
 -- `passes::pass_lines` meets its contract: all lines are read, then the end is put.
 use Rattle.std.proofs.Common.{arith}
 use Rattle.std.proofs.lemmas.Result.{err_from_is_err_and}
-use Rattle.records.proofs.Takes.{fits-less}
+use Rattle.records.proofs.RecordTakes.{fits-less}
 use Rattle.rereading.proofs.Rooms.{few-zero}
 use Rattle.passes.proofs.Lines.{line_room_first, token_room_first, halted_pass, end_small, end_line_room, end_token_room, end_counts, end_taken}
 use Rattle.passes.proofs.pass_lines.Goals as goal
@@ -10,10 +10,10 @@ pub read_to_end-requires-clause-few : goal.read_to_end-requires-clause-few
 read_to_end-requires-clause-few g c = few-zero _
 
 pub read_to_end-requires-clause-line_room : goal.read_to_end-requires-clause-line_room
-read_to_end-requires-clause-line_room g c = line_room_first _ c.args.limits.few _ c.requires.text_bound c.initial-state.ensures g.S.Sink.laws c.args.lines.now c.args.tokens.now c.requires.line_room
+read_to_end-requires-clause-line_room g c = line_room_first _ c.args.limits.few _ c.requires.text_bound c.initial-state.ensures g.S.RecordSink.laws c.args.lines.now c.args.tokens.now c.requires.line_room
 
 pub read_to_end-requires-clause-token_room : goal.read_to_end-requires-clause-token_room
-read_to_end-requires-clause-token_room g c = token_room_first _ c.args.limits.few _ c.requires.text_bound c.initial-state.ensures g.S.Sink.laws c.args.lines.now c.args.tokens.now c.requires.token_room
+read_to_end-requires-clause-token_room g c = token_room_first _ c.args.limits.few _ c.requires.text_bound c.initial-state.ensures g.S.RecordSink.laws c.args.lines.now c.args.tokens.now c.requires.token_room
 
 pub returns-in_err-read-clause-value : goal.returns-in_err-read-clause-value
 returns-in_err-read-clause-value g c =
@@ -27,11 +27,11 @@ put_end-requires-clause-end_bound g c =
 
 pub put_end-requires-clause-line_room : goal.put_end-requires-clause-line_room
 put_end-requires-clause-line_room g c =
-    fits-less _ (omega arith) (end_line_room _ c.args.limits.few _ c.requires.text_bound c.initial-state.ensures g.S.Sink.laws c.args.lines.now c.args.tokens.now c.in_ok-read.ensures.end_is c.read_to_end.new.lines c.read_to_end.new.tokens c.in_ok-read.ensures.taken c.requires.line_room)
+    fits-less _ (omega arith) (end_line_room _ c.args.limits.few _ c.requires.text_bound c.initial-state.ensures g.S.RecordSink.laws c.args.lines.now c.args.tokens.now c.in_ok-read.ensures.end_is c.read_to_end.new.lines c.read_to_end.new.tokens c.in_ok-read.ensures.taken c.requires.line_room)
 
 pub put_end-requires-clause-token_room : goal.put_end-requires-clause-token_room
 put_end-requires-clause-token_room g c =
-    end_token_room _ c.args.limits.few _ c.requires.text_bound c.initial-state.ensures g.S.Sink.laws c.args.lines.now c.args.tokens.now c.in_ok-read.ensures.end_is c.read_to_end.new.lines c.read_to_end.new.tokens c.in_ok-read.ensures.taken c.requires.token_room
+    end_token_room _ c.args.limits.few _ c.requires.text_bound c.initial-state.ensures g.S.RecordSink.laws c.args.lines.now c.args.tokens.now c.in_ok-read.ensures.end_is c.read_to_end.new.lines c.read_to_end.new.tokens c.in_ok-read.ensures.taken c.requires.token_room
 
 pub overflow_add-result : goal.overflow_add-result
 overflow_add-result g c = omega (arith, c.levels.ensures.value, end_small _ c.args.limits.few _ c.requires.text_bound c.initial-state.ensures c.in_ok-read.ensures.end_is)
@@ -42,4 +42,4 @@ returns-clause-value g c = end_counts _ c.args.limits.few _ c.requires.text_boun
 pub returns-clause-taken : goal.returns-clause-taken
 returns-clause-taken g c =
     let e = c.in_ok-read.ensures in
-    end_taken _ c.args.limits.few _ c.requires.text_bound c.initial-state.ensures g.S.Sink.laws c.args.lines.now c.args.tokens.now e.end_is c.read_to_end.new.lines c.read_to_end.new.tokens e.taken c.put_end.ensures.line_taken c.put_end.ensures.tokens_taken
+    end_taken _ c.args.limits.few _ c.requires.text_bound c.initial-state.ensures g.S.RecordSink.laws c.args.lines.now c.args.tokens.now e.end_is c.read_to_end.new.lines c.read_to_end.new.tokens e.taken c.put_end.ensures.line_taken c.put_end.ensures.tokens_taken

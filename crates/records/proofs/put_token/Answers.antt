@@ -2,4 +2,4 @@
 use Rattle.records.proofs.put_token.Goals as goal
 
 pub returns : goal.returns
-returns g c = c.put.ensures
+returns g c = c.put_record.ensures

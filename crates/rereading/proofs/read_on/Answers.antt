@@ -5,7 +5,7 @@ use Rattle.rereading.proofs.Loops.{begun, far, finished, next-few, line_room, to
 use Rattle.rereading.proofs.read_on.Goals as goal
 
 pub loop-read-init : goal.loop-read-init
-loop-read-init g c = begun c.requires.text_bound c.requires.state_bound g.S.Sink.laws
+loop-read-init g c = begun c.requires.text_bound c.requires.state_bound g.S.RecordSink.laws
 
 pub overflow_add-here : goal.overflow_add-here
 overflow_add-here g c = omega (arith, far c.requires.text_bound c.requires.state_bound c.loop-read.invariant)
@@ -28,10 +28,10 @@ pub next_line-requires-clause-depth_bound : goal.next_line-requires-clause-depth
 next_line-requires-clause-depth_bound g c = omega (arith, far c.requires.text_bound c.requires.state_bound c.loop-read.invariant)
 
 pub next_line-requires-clause-line_room : goal.next_line-requires-clause-line_room
-next_line-requires-clause-line_room g c = line_room c.requires.text_bound c.requires.state_bound c.loop-read.invariant c.loop-read-test.true g.S.Sink.laws c.requires.line_room
+next_line-requires-clause-line_room g c = line_room c.requires.text_bound c.requires.state_bound c.loop-read.invariant c.loop-read-test.true g.S.RecordSink.laws c.requires.line_room
 
 pub next_line-requires-clause-token_room : goal.next_line-requires-clause-token_room
-next_line-requires-clause-token_room g c = token_room c.requires.text_bound c.requires.state_bound c.loop-read.invariant c.loop-read-test.true g.S.Sink.laws c.requires.token_room
+next_line-requires-clause-token_room g c = token_room c.requires.text_bound c.requires.state_bound c.loop-read.invariant c.loop-read-test.true g.S.RecordSink.laws c.requires.token_room
 
 pub returns-in_err-next-clause-reread_is : goal.returns-in_err-next-clause-reread_is
 returns-in_err-next-clause-reread_is g c =
@@ -51,7 +51,7 @@ pub loop-read-preserved : goal.loop-read-preserved
 loop-read-preserved g c =
     let n = c.old_line-j.ensures in
     let x = c.next_line.ensures in
-    goes_on c.requires.text_bound c.requires.state_bound c.loop-read.invariant c.loop-read-test.true c.args.limits.few _ n.value n.upper_bound g.S.Sink.laws
+    goes_on c.requires.text_bound c.requires.state_bound c.loop-read.invariant c.loop-read-test.true c.args.limits.few _ n.value n.upper_bound g.S.RecordSink.laws
     c.stops_at.ensures c.if-stops_at.false _ c.in_ok-next.ensures.step_is x.line_taken x.tokens_taken
 
 pub returns : goal.returns

@@ -6,7 +6,7 @@ use Rattle.rereading.proofs.read_on.Given as goal
 
 abbrev pub invariant-loop-read : goal.invariant-loop-read
 invariant-loop-read g l =
-    Loop (line_limits_of l.limits) l.text l.old l.stop l.place l.initial.state g.S.Sink.takes l.initial.lines l.initial.tokens l.read l.j l.state l.lines l.tokens
+    Loop (line_limits_of l.limits) l.text l.old l.stop l.place l.initial.state g.S.RecordSink.takes l.initial.lines l.initial.tokens l.read l.j l.state l.lines l.tokens
 
 abbrev pub decreases-loop-read : goal.decreases-loop-read
 decreases-loop-read g l = length l.text - l.read.bytes

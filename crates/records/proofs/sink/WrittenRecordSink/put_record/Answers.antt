@@ -1,7 +1,7 @@
--- `records::sink::Written::put` meets its contract.
+-- `records::sink`: `Written::put_record` meets its contract.
 use Rattle.std.proofs.Common.{refl}
 use Rattle.records.proofs.Stores.{part_stored}
-use Rattle.records.proofs.sink.WrittenSink.put.Goals as goal
+use Rattle.records.proofs.sink.WrittenRecordSink.put_record.Goals as goal
 
 pub returns : goal.returns
 returns c =

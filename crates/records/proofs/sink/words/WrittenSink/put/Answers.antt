@@ -1,0 +1,8 @@
+-- `records::sink::words`: `Written::put` meets its contract.
+use Rattle.std.proofs.Common.{refl}
+use Rattle.records.proofs.Stores.{part_stored}
+use Rattle.records.proofs.sink.words.WrittenSink.put.Goals as goal
+
+pub returns : goal.returns
+returns c =
+    record { same = refl; written = part_stored _ _ _ _ _ c.copy_from_slice.ensures.after refl c.requires }
