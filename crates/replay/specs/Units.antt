@@ -8,9 +8,13 @@ use Rattle.replay.specs.Fnv.{fnv_basis, fnv}
 abbrev pub hex_pair : ℕ → List ℕ
 hex_pair b = digit_glyph false (b / 16) ∷ digit_glyph false (b % 16) ∷ []
 
--- bytes in hex, or none as one character
+-- bytes in hex
 abbrev pub SpellsBytes : List ℕ → List ℕ → Type 0
-SpellsBytes text bytes = (length text ≡ 1 → bytes ≡ []) × (length text ≢ 1 → text ≡ flat_map hex_pair bytes)
+SpellsBytes text bytes = text ≡ flat_map hex_pair bytes
+
+-- the same, or none as one character
+abbrev pub RecordsBytes : List ℕ → List ℕ → Type 0
+RecordsBytes text bytes = (length text ≡ 1 → bytes ≡ []) × (length text ≢ 1 → SpellsBytes text bytes)
 
 -- one word in decimal
 abbrev pub SpellsWord : List ℕ → List ℕ → Type 0
@@ -45,14 +49,18 @@ SpellsRuns {T} Spells (run ∷ runs) units =
 abbrev pub is_comma : ℕ → Bool
 is_comma b = b == 44
 
+-- a buffer: runs with commas between
+abbrev pub SpellsBuffer : {T : Type 0} → (List ℕ → List T → Type 0) → List ℕ → List T → Type 0
+SpellsBuffer Spells field units = SpellsRuns Spells (slice_split is_comma field) units
+
 -- runs with commas between; one more comma may stand behind them
 abbrev pub SpellsSome : {T : Type 0} → (List ℕ → List T → Type 0) → List ℕ → List T → Type 0
 SpellsSome Spells field units =
     (runs : List ℕ) × ((field ≡ runs) ⊎ (field ≡ runs ++ 44 ∷ [])) × SpellsRuns Spells (slice_split is_comma runs) units
 
--- a buffer: such runs, or no characters for no units
-abbrev pub SpellsBuffer : {T : Type 0} → (List ℕ → List T → Type 0) → List ℕ → List T → Type 0
-SpellsBuffer Spells field units = (field ≡ [] → units ≡ []) × (field ≢ [] → SpellsSome Spells field units)
+-- a buffer of a recorded list: such runs, or no characters for no units
+abbrev pub RecordsBuffer : {T : Type 0} → (List ℕ → List T → Type 0) → List ℕ → List T → Type 0
+RecordsBuffer Spells field units = (field ≡ [] → units ≡ []) × (field ≢ [] → SpellsSome Spells field units)
 
 -- the digest of units, by the bytes of each
 abbrev pub SpellsDigest : {T : Type 0} → (T → List ℕ) → List ℕ → List T → Type 0

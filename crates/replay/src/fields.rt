@@ -4,11 +4,11 @@ ghost use Rattle.std.specs.Fmt.{decimal};
 ghost use Rattle.std.specs.Str.{IsUtf8};
 ghost use Rattle.std.specs.Fn.{FnOnceReturnsAtMut};
 ghost use Rattle.replay.specs.Fields.{left, next_field, after_field, SpellsNumber, SpellsEach, SpellsGroup, SpellsGroupTo, SpellsFront, SpellsFrontGroup};
-ghost use Rattle.replay.specs.Units.{SpellsBytes, SpellsAll, SpellsRun, SpellsBuffer, SpellsDigest, PutsSpelled};
+ghost use Rattle.replay.specs.Units.{RecordsBytes, SpellsAll, SpellsRun, RecordsBuffer, SpellsDigest, PutsSpelled};
 
 use crate::Failure;
 use crate::digests::Digest;
-use crate::units::{Unit, put_run, put_units};
+use crate::units::{Recorded, Unit, put_recorded, put_recorded_run};
 use itoa::Buffer;
 use std::alloc::Global;
 
@@ -154,28 +154,36 @@ impl<'a> Fields<'a> {
         Ok(numbers)
     }
 
-    // The bytes that the next field spells in hex.
-    pub fn bytes(&mut self, alloc: Global) -> Result<Vec<u8>, Failure>
-        ensures spelled { IfOk result (λ bytes. (field : List ℕ) × (next_field (left self.old) ≡ Some field) × SpellsAll SpellsBytes field bytes.items) }
+    // The bytes that the next field of a recorded list spells in hex.
+    pub fn recorded_bytes(&mut self, alloc: Global) -> Result<Vec<u8>, Failure>
+        ensures spelled { IfOk result (λ bytes. (field : List ℕ) × (next_field (left self.old) ≡ Some field) × SpellsAll RecordsBytes field bytes.items) }
         ensures rest { left self.new ≡ after_field (left self.old) }
     {
         let mut bytes = Vec::new(alloc);
-        put_units(self.next()?, &mut bytes)?;
+        put_recorded(self.next()?, &mut bytes)?;
         Ok(bytes)
     }
 
-    // The bytes or words of the run that the next field spells, put behind the others, where `room` holds them all.
-    pub fn run<T: Unit>(&mut self, room: usize, units: &mut Vec<T>) -> Result<(), Failure>
-        ensures spelled { OnOk result ((field : List ℕ) × (next_field (left self.old) ≡ Some field) × PutsSpelled (SpellsRun T.spells) field units.old.items units.new.items) }
+    // The bytes or words of the run that the next field of a recorded list spells, put behind the others, where `room` holds them all.
+    pub fn recorded_run<T: Recorded>(
+        &mut self,
+        room: usize,
+        units: &mut Vec<T>,
+    ) -> Result<(), Failure>
+        ensures spelled { OnOk result ((field : List ℕ) × (next_field (left self.old) ≡ Some field) × PutsSpelled (SpellsRun T.recorded) field units.old.items units.new.items) }
         ensures fits { OnOk result (length units.new.items ≤ room) }
         ensures rest { left self.new ≡ after_field (left self.old) }
     {
-        put_run(self.next()?, room, units)
+        put_recorded_run(self.next()?, room, units)
     }
 
-    // The buffer that the next field spells, in runs with commas between, where `room` holds it.
-    fn buffer<T: Unit>(&mut self, room: usize, alloc: Global) -> Result<Vec<T>, Failure>
-        ensures spelled { IfOk result (λ units. (field : List ℕ) × (next_field (left self.old) ≡ Some field) × SpellsBuffer T.spells field units.items) }
+    // The buffer that the next field of a recorded list spells, in runs with commas between, where `room` holds it.
+    fn recorded_buffer<T: Recorded>(
+        &mut self,
+        room: usize,
+        alloc: Global,
+    ) -> Result<Vec<T>, Failure>
+        ensures spelled { IfOk result (λ units. (field : List ℕ) × (next_field (left self.old) ≡ Some field) × RecordsBuffer T.recorded field units.items) }
         ensures fits { IfOk result (λ units. length units.items ≤ room) }
         ensures rest { left self.new ≡ after_field (left self.old) }
     {
@@ -185,23 +193,23 @@ impl<'a> Fields<'a> {
             return Ok(units);
         }
         for run in field.strip_suffix(',').unwrap_or(field).split(',') {
-            put_run(run, room, &mut units)?;
+            put_recorded_run(run, room, &mut units)?;
         }
         Ok(units)
     }
 
-    // The buffers of a group, at most so many of them, where `room` holds each.
-    pub fn buffers<T: Unit>(
+    // The buffers of a group of a recorded list, at most so many of them, where `room` holds each.
+    pub fn recorded_buffers<T: Recorded>(
         &mut self,
         most: u64,
         room: usize,
         alloc: Global,
     ) -> Result<Vec<Vec<T>>, Failure>
-        ensures { IfOk result (λ buffers. SpellsGroupTo (λ field units. SpellsBuffer T.spells field units.items) most (left self.old) buffers.items (left self.new)) }
+        ensures { IfOk result (λ buffers. SpellsGroupTo (λ field units. RecordsBuffer T.recorded field units.items) most (left self.old) buffers.items (left self.new)) }
     {
         let mut buffers = Vec::new(alloc);
         for _ in 0..self.number()?.min(most) {
-            buffers.push(self.buffer(room, alloc)?)?;
+            buffers.push(self.recorded_buffer(room, alloc)?)?;
         }
         Ok(buffers)
     }

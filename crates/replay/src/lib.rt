@@ -6,11 +6,13 @@ ghost use Rattle.std.specs.Option.{option_or};
 ghost use Rattle.replay.specs.declared.Failure.TheVariants.{OutOfMemory};
 
 pub mod digests;
+mod exact;
 pub mod fields;
 pub mod input;
 pub mod units;
 
 use crate::fields::Fields;
+pub use exact::replay;
 use std::alloc::{AllocError, AllocFailed, Global};
 use std::io::{BufRead, BufReader, Read, Write};
 use std::rt::Files;
@@ -135,7 +137,7 @@ fn tally_of<R: Read + Drop, S, F: FnMut(&mut S, &mut Fields<'_>) -> Result<(), F
 
 // Holds each case of the lists on standard input, which must agree, and in the file `altered`, where each wrong answer must be found, against a
 // test, which goes through a list from this state on.
-pub fn replay<
+pub fn replay_lists<
     R: Input + Print + Files + AllocGlobal,
     S: Drop,
     N: Fn() -> S,
@@ -177,13 +179,13 @@ mod tests {
         assert_eq!(rt; bytes.as_slice(), [0, 255].as_slice());
         let mut run = fields.bytes(alloc)?;
         assert_eq!(rt; run.len(), 0);
-        fields.run(3, &mut run)?;
+        fields.run(&mut run)?;
         assert_eq!(rt; run.as_slice(), b"aaa".as_slice());
-        let texts = fields.buffers::<u8>(3, 4, alloc)?;
+        let texts = fields.buffers::<u8>(alloc)?;
         assert_eq!(rt; texts.len(), 2);
         assert_eq!(rt; texts[0].as_slice(), b"abcc".as_slice());
         assert_eq!(rt; texts[1].len(), 0);
-        let words = fields.buffers::<u32>(2, 3, alloc)?;
+        let words = fields.buffers::<u32>(alloc)?;
         assert_eq!(rt; words.len(), 1);
         assert_eq!(rt; words[0].as_slice(), [5, 5, 4_294_967_295].as_slice());
         let foobar = Digest::new().with(b"foobar".as_slice());
@@ -197,5 +199,61 @@ mod tests {
         reply.words[1] = 4;
         fields.expect_reply(&reply)?;
         fields.expect_end()
+    }
+
+    // A list is replayed, and the one that is to be altered is asked for: there is none beside a test.
+    #[test]
+    fn a_list_is_replayed(rt: HostRuntime) {
+        let replayed = replay(&rt, |fields| fields.expect_end());
+        assert!(rt; replayed.is_err());
+    }
+
+    // The same of a recorded list, whose buffers have room; no character spells nothing, nor does one for bytes, and a comma may stand at the end.
+    #[test]
+    fn recorded_fields_are_read(rt: HostRuntime) -> Result<(), Failure> {
+        let alloc = rt.alloc();
+        let line =
+            b"2 7 18446744073709551615 00ff - 61*3 2 6162,63*2 - 1 5*2,4294967295 9625390261332436968 2 5 6 2 0 4";
+        let mut fields = Fields::new(line).expect(&rt, "text");
+        let numbers = fields.numbers(alloc)?;
+        assert_eq!(rt;
+            numbers.as_slice(),
+            [7, 18_446_744_073_709_551_615].as_slice()
+        );
+        let bytes = fields.recorded_bytes(alloc)?;
+        assert_eq!(rt; bytes.as_slice(), [0, 255].as_slice());
+        let mut run = fields.recorded_bytes(alloc)?;
+        assert_eq!(rt; run.len(), 0);
+        fields.recorded_run(3, &mut run)?;
+        assert_eq!(rt; run.as_slice(), b"aaa".as_slice());
+        let texts = fields.recorded_buffers::<u8>(3, 4, alloc)?;
+        assert_eq!(rt; texts.len(), 2);
+        assert_eq!(rt; texts[0].as_slice(), b"abcc".as_slice());
+        assert_eq!(rt; texts[1].len(), 0);
+        let words = fields.recorded_buffers::<u32>(2, 3, alloc)?;
+        assert_eq!(rt; words.len(), 1);
+        assert_eq!(rt; words[0].as_slice(), [5, 5, 4_294_967_295].as_slice());
+        let foobar = Digest::new().with(b"foobar".as_slice());
+        fields.expect_number(foobar.0)?;
+        fields.expect_words(&[5, 6, 0xAAAA_AAAA])?;
+        let mut reply = Reply {
+            words: [FILL; 16],
+            count: 2,
+        };
+        reply.words[0] = 0;
+        reply.words[1] = 4;
+        fields.expect_reply(&reply)?;
+        fields.expect_end()?;
+        let mut loose = Fields::new(b"x 3 6162, - z 2 5*2, ").expect(&rt, "text");
+        assert_eq!(rt; loose.recorded_bytes(alloc)?.len(), 0);
+        let texts = loose.recorded_buffers::<u8>(3, 2, alloc)?;
+        assert_eq!(rt; texts.len(), 3);
+        assert_eq!(rt; texts[0].as_slice(), b"ab".as_slice());
+        assert_eq!(rt; texts[1].len() + texts[2].len(), 0);
+        let words = loose.recorded_buffers::<u32>(2, 2, alloc)?;
+        assert_eq!(rt; words.len(), 2);
+        assert_eq!(rt; words[0].as_slice(), [5, 5].as_slice());
+        assert_eq!(rt; words[1].len(), 0);
+        loose.expect_end()
     }
 }

@@ -1,16 +1,17 @@
-// What buffers hold, bytes or words, and how the fields of recorded lists spell it.
+// What buffers hold, bytes or words, and how recorded lists spell it.
 ghost use Rattle.std.specs.Prelude.{◌≡◌, ◌<◌, ◌≤◌, ℕ, List, [], ◌∷◌, false, IfOk, OnOk, length};
 ghost use Rattle.std.specs.Fmt.{digit_glyph};
 ghost use Rattle.std.specs.Int.{to_le_bytes, w32};
 ghost use Rattle.replay.specs.Fnv.{fnv};
-ghost use Rattle.replay.specs.Units.{SpellsBytes, SpellsWord, SpellsAll, SpellsRepeated, SpellsRun, PutsSpelled};
+ghost use Rattle.replay.specs.Units.{SpellsBytes, RecordsBytes, SpellsWord, SpellsAll, SpellsRepeated, SpellsRun, PutsSpelled};
 
 use crate::Failure;
 use crate::digests::Digest;
+pub use crate::exact::{put_run, put_units};
 use crate::fields::number;
 
 // The most bytes or words of a run.
-const MOST: u64 = 1_048_577;
+pub(crate) const MOST: u64 = 1_048_577;
 
 // A byte or a word.
 pub trait Unit: Copy {
@@ -23,9 +24,6 @@ pub trait Unit: Copy {
     // What it is in a buffer before a call.
     const FILL: Self;
 
-    // The room that one takes at least which is repeated.
-    const ROOM: usize;
-
     // Those that a text spells, put behind the others.
     fn put(text: &str, units: &mut Vec<Self>) -> Result<(), Failure>
         ensures { OnOk result (PutsSpelled spells text.now units.old.items units.new.items) };
@@ -33,6 +31,19 @@ pub trait Unit: Copy {
     // A digest with it.
     fn digested(self, digest: Digest) -> Digest
         ensures { result.0 ≡ fnv digest.0 (bytes self) };
+}
+
+// A byte or a word as the recorded lists spell it.
+pub trait Recorded: Unit {
+    // A text of a recorded list spells these.
+    ghost recorded: { List ℕ → List Self → Type 0 };
+
+    // The room that one takes at least which is repeated.
+    const ROOM: usize;
+
+    // Those that a text of a recorded list spells, put behind the others.
+    fn put_text(text: &str, units: &mut Vec<Self>) -> Result<(), Failure>
+        ensures { OnOk result (PutsSpelled recorded text.now units.old.items units.new.items) };
 }
 
 // The value of a hex digit. The library's digits may also be capitals.
@@ -46,7 +57,7 @@ fn hex_digit(b: u8) -> Result<u8, Failure>
     }
 }
 
-// Bytes are spelled in hex, two digits each; one character spells none.
+// Bytes are spelled in hex, two digits each.
 impl Unit for u8 {
     ghost bytes = { λ byte. byte ∷ [] };
 
@@ -54,12 +65,7 @@ impl Unit for u8 {
 
     const FILL: u8 = 0xAA;
 
-    const ROOM: usize = 1;
-
     fn put(text: &str, bytes: &mut Vec<u8>) -> Result<(), Failure> {
-        if text.len() == 1 {
-            return Ok(());
-        }
         let mut rest = text.as_bytes();
         while let [high, low, behind @ ..] = rest {
             bytes.push(16 * hex_digit(*high)? + hex_digit(*low)?)?;
@@ -76,6 +82,20 @@ impl Unit for u8 {
     }
 }
 
+// One character spells no bytes.
+impl Recorded for u8 {
+    ghost recorded = { RecordsBytes };
+
+    const ROOM: usize = 1;
+
+    fn put_text(text: &str, bytes: &mut Vec<u8>) -> Result<(), Failure> {
+        if text.len() == 1 {
+            return Ok(());
+        }
+        u8::put(text, bytes)
+    }
+}
+
 // A word is spelled in decimal, and digested lowest byte first.
 impl Unit for u32 {
     ghost bytes = { λ word. to_le_bytes w32 word };
@@ -83,8 +103,6 @@ impl Unit for u32 {
     ghost spells = { SpellsWord };
 
     const FILL: u32 = 0xAAAA_AAAA;
-
-    const ROOM: usize = 0;
 
     fn put(text: &str, words: &mut Vec<u32>) -> Result<(), Failure> {
         let word = u32::try_from(number(text)?).map_err(|_| Failure::Differs)?;
@@ -98,28 +116,38 @@ impl Unit for u32 {
     }
 }
 
-// The units that a text spells, put behind the others; `-` spells none.
-pub fn put_units<T: Unit>(text: &str, units: &mut Vec<T>) -> Result<(), Failure>
-    ensures { OnOk result (PutsSpelled (SpellsAll T.spells) text.now units.old.items units.new.items) }
+impl Recorded for u32 {
+    ghost recorded = { SpellsWord };
+
+    const ROOM: usize = 0;
+
+    fn put_text(text: &str, words: &mut Vec<u32>) -> Result<(), Failure> {
+        u32::put(text, words)
+    }
+}
+
+// The units that a text of a recorded list spells, put behind the others; `-` spells none.
+pub fn put_recorded<T: Recorded>(text: &str, units: &mut Vec<T>) -> Result<(), Failure>
+    ensures { OnOk result (PutsSpelled (SpellsAll T.recorded) text.now units.old.items units.new.items) }
 {
     if text == "-" {
         return Ok(());
     }
-    T::put(text, units)
+    T::put_text(text, units)
 }
 
 // The one unit that a text spells, put behind the others so many times, where `room` holds them all.
-fn put_repeated<T: Unit>(
+fn put_repeated<T: Recorded>(
     text: &str,
     count: u64,
     room: usize,
     units: &mut Vec<T>,
 ) -> Result<(), Failure>
-    ensures spelled { OnOk result (PutsSpelled (SpellsRepeated T.spells count) text.now units.old.items units.new.items) }
+    ensures spelled { OnOk result (PutsSpelled (SpellsRepeated T.recorded count) text.now units.old.items units.new.items) }
     ensures fits { OnOk result (length units.new.items ≤ room) }
 {
     let before = units.len();
-    put_units(text, units)?;
+    put_recorded(text, units)?;
     if units.len() != before + 1 || MOST < count {
         return Err(Failure::Differs);
     }
@@ -131,15 +159,19 @@ fn put_repeated<T: Unit>(
     Ok(())
 }
 
-// The units of a run, put behind the others, where `room` holds them all: as they are spelled, or one, `*` and how often it stands.
-pub fn put_run<T: Unit>(run: &str, room: usize, units: &mut Vec<T>) -> Result<(), Failure>
-    ensures spelled { OnOk result (PutsSpelled (SpellsRun T.spells) run.now units.old.items units.new.items) }
+// The units of a run of a recorded list, put behind the others, where `room` holds them all: as they are spelled, or one, `*` and how often it stands.
+pub fn put_recorded_run<T: Recorded>(
+    run: &str,
+    room: usize,
+    units: &mut Vec<T>,
+) -> Result<(), Failure>
+    ensures spelled { OnOk result (PutsSpelled (SpellsRun T.recorded) run.now units.old.items units.new.items) }
     ensures fits { OnOk result (length units.new.items ≤ room) }
 {
     match run.split_once('*') {
         Some((text, count)) => put_repeated(text, number(count)?, room, units),
         None => {
-            put_units(run, units)?;
+            put_recorded(run, units)?;
             if room < units.len() {
                 return Err(Failure::Differs);
             }

@@ -86,8 +86,8 @@ impl Arguments {
             return Err(Failure::Differs);
         }
         numbers.resize(NUMBERS, 0)?;
-        let bytes = fields.buffers(BYTES as u64, BYTE_ROOM, alloc)?;
-        let words = fields.buffers(WORDS as u64, WORD_ROOM, alloc)?;
+        let bytes = fields.recorded_buffers(BYTES as u64, BYTE_ROOM, alloc)?;
+        let words = fields.recorded_buffers(WORDS as u64, WORD_ROOM, alloc)?;
         let (bytes_given, words_given) = (bytes.len(), words.len());
         Ok(Arguments {
             numbers,
@@ -163,5 +163,5 @@ fn agrees(fields: &mut Fields<'_>, alloc: Global) -> Result<(), Failure> {
 
 fn main(rt: HostRuntime) -> io::Result<()> {
     let alloc = rt.alloc();
-    replay::replay(&rt, || (), |_, fields| agrees(fields, alloc))
+    replay::replay_lists(&rt, || (), |_, fields| agrees(fields, alloc))
 }

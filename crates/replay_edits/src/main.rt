@@ -72,7 +72,7 @@ impl Page {
         let a = fields.number()? as usize;
         let b = fields.number()? as usize;
         let start = self.bytes.len();
-        fields.run(BYTES, &mut self.bytes)?;
+        fields.recorded_run(BYTES, &mut self.bytes)?;
         if EDITS <= self.edits.len() {
             return Err(Failure::Differs);
         }
@@ -150,7 +150,7 @@ fn agrees(page: &mut Option<Page>, fields: &mut Fields<'_>, alloc: Global) -> Re
 
 fn main(rt: HostRuntime) -> io::Result<()> {
     let alloc = rt.alloc();
-    replay::replay(
+    replay::replay_lists(
         &rt,
         || Some(Page::new([0; 4], alloc)),
         |page, fields| agrees(page, fields, alloc),

@@ -43,7 +43,7 @@ fn expect_message(
     reading: &Reply,
     alloc: Global,
 ) -> Result<(), Failure> {
-    let mut message = fields.bytes(alloc)?;
+    let mut message = fields.recorded_bytes(alloc)?;
     let size = message.len();
     if MESSAGE < size {
         return Err(Failure::Differs);
@@ -74,7 +74,7 @@ fn expect_columns(fields: &mut Fields<'_>, text: &[u8]) -> Result<(), Failure> {
 
 // A text with its answers agrees with the code.
 fn agrees(fields: &mut Fields<'_>, alloc: Global) -> Result<(), Failure> {
-    let text = fields.bytes(alloc)?;
+    let text = fields.recorded_bytes(alloc)?;
     let text = text.as_slice();
     if TEXT < text.len() {
         return Err(Failure::Differs);
@@ -88,5 +88,5 @@ fn agrees(fields: &mut Fields<'_>, alloc: Global) -> Result<(), Failure> {
 
 fn main(rt: HostRuntime) -> io::Result<()> {
     let alloc = rt.alloc();
-    replay::replay(&rt, || (), |_, fields| agrees(fields, alloc))
+    replay::replay_lists(&rt, || (), |_, fields| agrees(fields, alloc))
 }

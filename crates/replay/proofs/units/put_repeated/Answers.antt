@@ -4,7 +4,7 @@ use Rattle.replay.proofs.units.put_repeated.Goals as goal
 
 pub returns-clause-spelled : goal.returns-clause-spelled
 returns-clause-spelled g c =
-    let one : length c.put_units.new.units.items ≡ length c.args.units.now.items + 1 = search rules in
-    let is : c.index-unit.result.now ≡ get_or c.put_units.new.units.items (length c.args.units.now.items) c.index-unit.result.now = search rules in
-    runs.put_repeated g.T.Unit.spells c.args.text.now c.args.count c.args.units.now.items c.put_units.new.units.items c.resize.new.self.items c.index-unit.result.now
-    c.in_ok-put_units.ensures one is (search rules)
+    let one : length c.put_recorded.new.units.items ≡ length c.args.units.now.items + 1 = search rules in
+    let is : c.index-unit.result.now ≡ get_or c.put_recorded.new.units.items (length c.args.units.now.items) c.index-unit.result.now = search rules in
+    runs.put_repeated g.T.Recorded.recorded c.args.text.now c.args.count c.args.units.now.items c.put_recorded.new.units.items c.resize.new.self.items c.index-unit.result.now
+    c.in_ok-put_recorded.ensures one is (search rules)

@@ -1,5 +1,5 @@
-use Rattle.std.proofs.Common.{◌≡◌, ◌∙◌, subst, arith, rules}
-use Rattle.replay.specs.Fields.{left, SpellsEach}
+use Rattle.std.proofs.Common.{◌≡◌, Some, decimal, length, subst, arith, rules}
+use Rattle.replay.specs.Fields.{left, next_field, SpellsEach}
 use Rattle.replay.specs.Units.{SpellsBuffer}
 use Rattle.replay.proofs.Each.{SpellsEach-push}
 use Rattle.replay.proofs.fields.Fields.buffers.Goals as goal
@@ -15,10 +15,8 @@ loop-preserved g c =
 
 pub returns : goal.returns
 returns g c =
-    let ended : c.loop.counter ≡ c.min-end.result = omega (arith, c.loop-test.false, c.loop.auto.counter-end) in (
-      c.in_ok-number.field-0,
-      c.in_ok-number.ensures.spelled,
-      c.loop.invariant.count ∙ (ended ∙ c.min-end.ensures),
+    let count : c.in_ok-end.end ≡ length c.loop.buffers.items = omega (arith, c.loop.invariant.count) in (
+      subst (λ n. next_field (left c.args.self.now) ≡ Some (decimal n)) count c.in_ok-end.ensures.spelled,
       subst (λ rest. SpellsEach (λ field units. SpellsBuffer g.T.Unit.spells field units.items) rest c.loop.buffers.items (left c.loop.self))
-          c.in_ok-number.ensures.rest c.loop.invariant.spelled,
+          c.in_ok-end.ensures.rest c.loop.invariant.spelled,
     )
