@@ -6,10 +6,21 @@ use mathlib.Core.List.{List, ◌++◌, append_assoc}
 use native.Mathlib.Omega.{arith}
 use lib.ListN.{length, take, drop, length-append, length-drop, take-append-drop}
 use lib.Seq.{sets, sets-eq, length-take-le, take-take}
+use borrow.Rule.Slice.PartMut.{put_mid}
+use Rattle.std.proofs.Common.{drop-drop}
 use Rattle.std.proofs.lemmas.Slice.{between_is}
 use Rattle.laws.proofs.Sets.{sets_append, sets_before}
 use Rattle.rules.specs.Lists.{overwrite}
 use Rattle.rules.specs.StopRule.{edited}
+
+-- a run copied over a part of the buffer
+pub run_put : (l vs ys : List ℕ) (i k : ℕ) → ys ≡ vs → k ≡ length vs → i + length vs ≤ length l → put_mid i k l ys ≡ sets l i vs
+run_put l vs ys i k e n h =
+    ap (λ (x : List ℕ). take i l ++ (x ++ drop k (drop i l))) e
+    ∙ ap (λ (m : ℕ). take i l ++ (vs ++ drop m (drop i l))) n
+    ∙ ap (λ (x : List ℕ). take i l ++ (vs ++ x)) (drop-drop (length vs) i l)
+    ∙ sym (append_assoc (take i l) vs (drop (i + length vs) l))
+    ∙ sym (sets-eq vs l i h)
 
 -- a run from index i on, after what the buffer has there
 pub run-over : (l : List ℕ) (i : ℕ) (vs : List ℕ) → i + length vs ≤ length l → sets l i vs ≡ overwrite (take i l ++ vs) l
