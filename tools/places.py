@@ -4,7 +4,7 @@
     python3 tools/places.py POINT     the places of one point, each with its file and line"""
 import collections, glob, os, re, sys
 
-TEXTS = {p: open(p, encoding='utf-8').read() for p in sorted(glob.glob('crates/*/src/*.rt'))}
+TEXTS = {p: open(p, encoding='utf-8').read() for p in sorted(glob.glob('crates/*/src/**/*.rt', recursive=True))}
 
 def lines_like(pattern):
     out = []
